@@ -1,0 +1,118 @@
+-- Laws of readers at a place, for any reader: what a chain, a choice and a loop in the code come to. No law has a parameter that
+-- its statement does not use, and each premise is a fact as the code has it: `search` has to find each. Assumes nothing.
+use mathlib.Core.Path.{_≡_, refl, sym, ap, _∙_}
+use mathlib.Core.Bool.{Bool, true, false}
+use mathlib.Core.List.{List, [], _∷_}
+use Prim.Native.Nat.{ℕ, zero, suc, _+_, _-_, _^_, _<_, _≤_}
+use Prim.Native.String.{String}
+use native.Mathlib.Nat.{add-assoc, add-zero}
+use native.Mathlib.Omega.{arith}
+use borrow.Author.Needs.{needs}
+use mir.Syntax.{w64}
+use mir.Val.{Fits}
+use lib.ListN.{length, getD, drop, length-drop}
+use lib.Seq.{drop-drop}
+use Rattle.spec.specs.Basics.{pick}
+use Rattle.spec.specs.Reading.Refusals.{Refusal, number}
+use Rattle.spec.specs.Reading.Readers.{Result, ok, err, Reader, on-ok, past, _>>_, nothing, refuse, choose, while, throughout}
+use Rattle.spec.proofs.Places.{drop-at, drop-end}
+use Rattle.spec.proofs.Unroll.{Somes, through-end, through-turn, through-refused}
+use Rattle.error.specs.Read.{placed, read}
+use Rattle.error.specs.declared.Answer.{Answer}
+use Rattle.error.specs.declared.Answer.the-variants.{At, No}
+
+pub At≢No : {i n : ℕ} → At i ≡ No n → ⊥
+At≢No e = let z : _≡_ {A = ℕ} 0 1 = cc in omega arith
+
+pub At-inj : {i k : ℕ} → At i ≡ At k → i ≡ k
+At-inj e = cc
+
+pub placed-past : (at k : ℕ) (x : Result) → placed at (past k x) ≡ placed (at + k) x
+placed-past at k (ok n) = ap At (sym (add-assoc at k n))
+placed-past at k (err n) = refl
+
+-- a reader that goes on at k of what is left at a place
+pub read-on : (R : Reader) (s : List ℕ) (at k : ℕ) → read R s (at + k) ≡ placed at (past k (R (drop k (drop at s))))
+unfolding read
+read-on R s at k = rw (placed-past, drop-drop)
+
+-- what the code's answer says of the reader's
+pub was-ok : (R : Reader) (s : List ℕ) (at i : ℕ) (r : Answer) → r ≡ read R s at → r ≡ At i → (k : ℕ) × ((R (drop at s) ≡ ok k) × (i ≡ at + k))
+unfolding read
+was-ok R s at i r a e = go (R (drop at s)) refl a
+  where
+    go : (x : Result) → R (drop at s) ≡ x → r ≡ placed at x → (k : ℕ) × ((R (drop at s) ≡ ok k) × (i ≡ at + k))
+    go (ok k) f a = (k, (f, At-inj (sym e ∙ a)))
+    go (err n) f a = absurd (At≢No (sym e ∙ a))
+
+pub was-err : (R : Reader) (s : List ℕ) (at n : ℕ) (r : Answer) → r ≡ read R s at → r ≡ No n → (m : Refusal) × ((R (drop at s) ≡ err m) × (r ≡ No (number m)))
+unfolding read
+was-err R s at n r a e = go (R (drop at s)) refl a
+  where
+    go : (x : Result) → R (drop at s) ≡ x → r ≡ placed at x → (m : Refusal) × ((R (drop at s) ≡ err m) × (r ≡ No (number m)))
+    go (ok k) f a = absurd (At≢No (sym a ∙ e))
+    go (err m) f a = (m, (f, a))
+
+-- A chain. r is what A answered at a place, and q what the code answers in the end.
+pub seq-no : (A B : Reader) (s : List ℕ) (at n : ℕ) (r : Answer) → r ≡ read A s at → r ≡ No n → r ≡ read (A >> B) s at
+unfolding read _>>_
+seq-no A B s at n r a e = let (m, (f, g)) = was-err A s at n r a e in g ∙ (rw f)
+
+pub seq-at : (A B : Reader) (s : List ℕ) (at i : ℕ) (r q : Answer) → r ≡ read A s at → r ≡ At i → q ≡ read B s i → q ≡ read (A >> B) s at
+unfolding _>>_
+seq-at A B s at i r q a e b = let (k, (f, g)) = was-ok A s at i r a e in b ∙ ap (read B s) g ∙ read-on B s at k ∙ (unfold read in (rw f))
+
+-- what takes a number of bytes and never refuses, and then B
+pub seq-take : (f : List ℕ → ℕ) (A B : Reader) (s : List ℕ) (at e : ℕ) (q : Answer) → ((w : List ℕ) → A w ≡ ok (f w)) → e ≡ at + f (drop at s) → q ≡ read B s e → q ≡ read (A >> B) s at
+unfolding _>>_
+seq-take f A B s at e q law h b = b ∙ ap (read B s) h ∙ read-on B s at (f (drop at s)) ∙ (unfold read in (rw law))
+
+-- a choice by a test
+pub choose-yes : (t : List ℕ → Bool) (A B : Reader) (s : List ℕ) (at : ℕ) (b : Bool) (r : Answer) → b ≡ t (drop at s) → b ≡ true → r ≡ read A s at → r ≡ read (choose t A B) s at
+unfolding read choose
+choose-yes t A B s at b r e f a = a ∙ (rw (sym e ∙ f))
+
+pub choose-no : (t : List ℕ → Bool) (A B : Reader) (s : List ℕ) (at : ℕ) (b : Bool) (r : Answer) → b ≡ t (drop at s) → b ≡ false → r ≡ read B s at → r ≡ read (choose t A B) s at
+unfolding read choose
+choose-no t A B s at b r e f a = a ∙ (rw (sym e ∙ f))
+
+pub refused : (n : Refusal) (m : ℕ) (s : List ℕ) (at : ℕ) → m ≡ number n → No m ≡ read (refuse n) s at
+unfolding read refuse
+refused n m s at e = ap No e
+
+pub took-nothing : (s : List ℕ) (at : ℕ) → At at ≡ read nothing s at
+unfolding read nothing
+took-nothing s at = rw add-zero
+
+-- A reader again and again to the text's end. The invariant: the answer from i on is the whole answer W.
+module _ (R : Reader) (s : List ℕ) (i : ℕ) (W : Answer) (inv : read (throughout R) s i ≡ W) where
+  pub walk-end : length s ≤ i → At i ≡ W
+  unfolding read
+  walk-end h = (rw (drop-end s i h, through-end R, add-zero)) ∙ inv
+
+  pub walk-no : (n : ℕ) (r : Answer) → i < length s → r ≡ read R s i → r ≡ No n → r ≡ W
+  unfolding read
+  walk-no n r h a e =
+      let (m, (f, g)) = was-err R s i n r a e in
+      let d = drop-at s i h in
+      g ∙ ap (placed i) (sym (ap (throughout R) d ∙ through-refused R (getD s i 0) (drop (i + 1) s) m (ap R (sym d) ∙ f))) ∙ inv
+
+  pub walk-go : (j : ℕ) (r : Answer) → Somes R → i < length s → r ≡ read R s i → r ≡ At j → read (throughout R) s j ≡ W
+  walk-go j r some h a e =
+      let (k, (f, g)) = was-ok R s i j r a e in
+      let d = drop-at s i h in
+      let t : throughout R (drop i s) ≡ past k (throughout R (drop k (drop i s))) = ap (throughout R) d ∙ through-turn R some (getD s i 0) (drop (i + 1) s) k (ap R (sym d) ∙ f) ∙ (rw (← d)) in
+      ap (read (throughout R) s) g ∙ read-on (throughout R) s i k ∙ ap (placed i) (sym t) ∙ (unfold read in inv)
+
+-- a turn ends further on
+pub walk-less : (R : Reader) (s : List ℕ) (i j : ℕ) (r : Answer) → Somes R → i < length s → r ≡ read R s i → r ≡ At j → length s - j < length s - i
+walk-less R s i j r some h a e =
+    let (k, (f, g)) = was-ok R s i j r a e in
+    let z : 0 < k = some .some (getD s i 0) (drop (i + 1) s) k (ap R (sym (drop-at s i h)) ∙ f) in
+    omega arith
+
+-- what a chain of readers searches
+pub ruleset chain = (seq-no, seq-at, choose-yes, choose-no, refused, took-nothing, needs)
+
+-- what a loop to the text's end searches
+pub ruleset walk = (walk-end, walk-no, walk-go, walk-less, needs)

@@ -1,0 +1,33 @@
+-- Names, over any classes of name characters: W3C XML 1.0, sections 2.3 and 2.6, and Namespaces in XML 1.0. Assumes nothing.
+use mathlib.Core.Bool.{Bool}
+use Prim.Native.Nat.{ℕ}
+use Rattle.spec.specs.Grammar.Languages.{Lang, lit, Ch, _·_, _∖_, Star, Plus, one-of}
+use Rattle.spec.specs.Grammar.Characters.{Text}
+
+-- What the grammar and the order of reading leave open: the characters that begin a name ([4] NameStartChar) and that go on with
+-- it ([4a] NameChar), and how many groups of a content model may be open at one time (added: the Rust has no such limit)
+pub record Dialect : Type 0 where
+  pub start : ℕ → Bool
+  pub part : ℕ → Bool
+  pub groups : ℕ
+
+module _ (D : Dialect) where
+  -- [5] Name ::= NameStartChar (NameChar)*
+  unfoldable pub Name : Lang
+  Name = Ch (D .start) · Star (Ch (D .part))
+
+  -- [7] Nmtoken ::= (NameChar)+
+  unfoldable pub Nmtoken : Lang
+  Nmtoken = Plus (Ch (D .part))
+
+  -- Namespaces [4] NCName ::= Name - (Char* ':' Char*)
+  unfoldable pub NCName : Lang
+  NCName = Name ∖ (Text · lit ":" · Text)
+
+  -- [17] PITarget ::= Name - (('X' | 'x') ('M' | 'm') ('L' | 'l')); departure: no colon
+  unfoldable pub PITarget : Lang
+  PITarget = NCName ∖ (Ch (one-of "Xx") · Ch (one-of "Mm") · Ch (one-of "Ll"))
+
+  -- [69] PEReference ::= '%' Name ';'
+  unfoldable pub PEReference : Lang
+  PEReference = lit "%" · Name · lit ";"

@@ -1,0 +1,4 @@
+pub mod Basics
+pub mod Grammar
+pub mod Reading
+pub mod Promises

@@ -1,0 +1,7 @@
+-- The written order of reading, from the Rust: which refusal is met first. In reading order.
+pub mod Refusals
+pub mod Utf8
+pub mod Readers
+pub mod Source
+pub mod Wellformed
+pub mod Dtd

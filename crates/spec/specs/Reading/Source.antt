@@ -1,0 +1,25 @@
+-- source.rs: whether bytes are UTF-8; and the two numbers in front of every public call. Assumes nothing.
+use mathlib.Core.List.{List}
+use Prim.Native.Nat.{ℕ}
+use lib.Dec.{ltb}
+use lib.ListN.{length}
+use Rattle.spec.specs.Basics.{pick}
+use Rattle.spec.specs.Grammar.Languages.{any}
+use Rattle.spec.specs.Reading.Refusals.{too-long, not-utf8}
+use Rattle.spec.specs.Reading.Readers.{Result, err, Reader, number-of, on-ok, char, throughout}
+
+-- code points from the first byte to the last
+unfoldable pub utf8 : Reader
+utf8 = throughout (char any not-utf8)
+
+-- the longest text that is looked at
+abbrev pub limit : ℕ
+limit = 1_048_576
+
+-- 1 before 2
+unfoldable pub admit : Reader
+admit w = pick (ltb limit (length w)) (err too-long) (utf8 w)
+
+-- 2 before the rest: the number that a public call gives
+unfoldable pub checked : Reader → List ℕ → ℕ
+checked rule w = number-of (on-ok (admit w) (λ k. rule w))
