@@ -2,21 +2,17 @@
 -- its statement does not use, and each premise is a fact as the code has it: `search` has to find each. Assumes nothing.
 use mathlib.Core.Path.{_≡_, refl, sym, ap, _∙_}
 use mathlib.Core.Bool.{Bool, true, false}
-use mathlib.Core.List.{List, [], _∷_}
-use Prim.Native.Nat.{ℕ, zero, suc, _+_, _-_, _^_, _<_, _≤_}
-use Prim.Native.String.{String}
+use mathlib.Core.List.{List}
+use Prim.Native.Nat.{ℕ, _+_, _-_, _<_, _≤_}
 use native.Mathlib.Nat.{add-assoc, add-zero}
 use native.Mathlib.Omega.{arith}
 use borrow.Author.Needs.{needs}
-use mir.Syntax.{w64}
-use mir.Val.{Fits}
-use lib.ListN.{length, getD, drop, length-drop}
+use lib.ListN.{length, getD, drop}
 use lib.Seq.{drop-drop}
-use Rattle.spec.specs.Basics.{pick}
 use Rattle.spec.specs.Reading.Refusals.{Refusal, number}
-use Rattle.spec.specs.Reading.Readers.{Result, ok, err, Reader, on-ok, past, _>>_, nothing, refuse, choose, while, throughout}
-use Rattle.spec.proofs.Places.{drop-at, drop-end}
-use Rattle.spec.proofs.Unroll.{Somes, through-end, through-turn, through-refused}
+use Rattle.spec.specs.Reading.Readers.{Result, ok, err, Reader, past, _>>_, nothing, refuse, choose, throughout}
+use Rattle.spec.proofs.Base.Places.{drop-at, drop-end}
+use Rattle.spec.proofs.Base.Loops.{Somes, through-end, through-turn, through-refused}
 use Rattle.error.specs.Read.{placed, read}
 use Rattle.error.specs.declared.Answer.{Answer}
 use Rattle.error.specs.declared.Answer.the-variants.{At, No}

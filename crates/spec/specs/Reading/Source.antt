@@ -6,7 +6,7 @@ use lib.ListN.{length}
 use Rattle.spec.specs.Basics.{pick}
 use Rattle.spec.specs.Grammar.Languages.{any}
 use Rattle.spec.specs.Reading.Refusals.{too-long, not-utf8}
-use Rattle.spec.specs.Reading.Readers.{Result, err, Reader, number-of, on-ok, char, throughout}
+use Rattle.spec.specs.Reading.Readers.{err, Reader, number-of, on-ok, char, throughout}
 
 -- code points from the first byte to the last
 unfoldable pub utf8 : Reader

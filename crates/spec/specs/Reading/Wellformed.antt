@@ -1,35 +1,16 @@
 -- wellformed.rs, function by function: characters, character references and names. Assumes nothing.
-use mathlib.Core.Bool.{Bool, true, false, _&&_, _||_, not}
+use mathlib.Core.Bool.{Bool, false, _&&_, _||_, not}
 use mathlib.Core.List.{List, [], _∷_}
-use Prim.Native.Nat.{ℕ, zero, suc, _+_}
+use Prim.Native.Nat.{ℕ, _+_}
 use lib.Dec.{eqb, ltb}
-use lib.ListN.{length, take, drop}
+use lib.ListN.{take, drop}
 use Rattle.spec.specs.Basics.{pick}
-use Rattle.spec.specs.Grammar.Languages.{ascii, any, none-of}
+use Rattle.spec.specs.Grammar.Languages.{ascii, none-of}
 use Rattle.spec.specs.Grammar.Characters.{xml-char}
 use Rattle.spec.specs.Grammar.References.{digit, hex-digit, value-on}
 use Rattle.spec.specs.Grammar.Names.{Dialect}
 use Rattle.spec.specs.Reading.Refusals.{bad-name, less-than, bad-reference, illegal-reference, illegal-char, section-end}
-use Rattle.spec.specs.Reading.Readers.{
-  Result,
-  ok,
-  err,
-  Reader,
-  taken,
-  _>>_,
-  refuse,
-  at-end,
-  starts,
-  choose,
-  on,
-  word,
-  run,
-  while,
-  throughout,
-  a-byte,
-  begins,
-  char,
-}
+use Rattle.spec.specs.Reading.Readers.{ok, err, Reader, taken, _>>_, refuse, at-end, starts, choose, on, word, run, while, throughout, a-byte, begins, char}
 
 -- CHAR_SUSPECT, check_suspect_byte: a control but tab, line feed and carriage return, or the bytes of U+FFFE or U+FFFF
 unfoldable pub illegal-here : List ℕ → Bool

@@ -1,0 +1,91 @@
+-- One character of a class: its first sign, and its reader. Assumes nothing.
+use mathlib.Core.Logic
+use mathlib.Core.Bool.{Bool, true, false}
+use mathlib.Core.List.{List, [], _∷_, _++_}
+use mathlib.Core.Logic.{_⊎_}
+use mathlib.Core.Path.{_≡_, refl, _∙_}
+use Prim.Native.Nat.{ℕ, suc, _+_, _<_, _/_, _≤_}
+use native.Mathlib.Omega.{arith}
+use lib.Dec.{T, ltb}
+use lib.ListN.{length}
+use Rattle.spec.specs.Basics.{pick}
+use Rattle.spec.specs.Grammar.Characters.{Text}
+use Rattle.spec.specs.Grammar.Languages.{Ch, inl, inr, any}
+use Rattle.spec.specs.Grammar.Utf8.{scalar, encode}
+use Rattle.spec.specs.Reading.Readers.{ok, err, begins, char, of-point}
+use Rattle.spec.specs.Reading.Refusals.{Refusal}
+use Rattle.spec.specs.Reading.Utf8.{decode1, Point, point, no-point}
+use Rattle.spec.proofs.Agreement.Reads.{Took, Reads, Next, Leads}
+use Rattle.spec.proofs.Agreement.Signs.{kind, Class}
+use Rattle.spec.proofs.Base.Results.{err-ok, ok-inj}
+use Rattle.spec.proofs.Base.Tests.{T→true, true→T, decide, leb-true, leb-no, leb-false}
+use Rattle.spec.proofs.Characters.Text.{text-after}
+use Rattle.spec.proofs.Characters.Utf8.{encode-nonempty, encode-1, encode-2, encode-3, encode-4, decode-1, decode-encode, decode-read, Read}
+
+-- a character has a byte or more
+pub ch-some : {p : ℕ → Bool} (u : List ℕ) → Ch p u → 0 < length u
+ch-some u c = rw (c .bytes) (encode-nonempty (c .char) (T→true (scalar (c .char)) (c .is-scalar)))
+
+-- one character of a class: f has the first signs of its bytes
+abbrev pub sign : ℕ → ℕ
+sign c = pick (ltb c 128) c 128
+
+pub kind-encode : (c : ℕ) (v : List ℕ) → kind (encode c ++ v) ≡ sign c
+unfolding kind
+kind-encode c v = by-1 (decide (ltb c 128))
+  where
+    high : (a : ℕ) (w : List ℕ) → 128 ≤ a → ltb c 128 ≡ false → encode c ≡ a ∷ w → kind (encode c ++ v) ≡ sign c
+    high a w h f e = rw (e, leb-no (suc a) 128 (omega arith), f)
+
+    by-3 : ltb c 128 ≡ false → (ltb c 0x10000 ≡ true) ⊎ (ltb c 0x10000 ≡ false) → 0x800 ≤ c → kind (encode c ++ v) ≡ sign c
+    by-3 f (Logic.inl e) h = high (0xE0 + c / 4096) _ (omega arith) f (encode-3 c h (leb-true (suc c) 0x10000 e))
+    by-3 f (Logic.inr e) h = let g : 0x10000 < suc c = leb-false (suc c) 0x10000 e in high (0xF0 + c / 262144) _ (omega arith) f (encode-4 c (omega arith))
+
+    by-2 : ltb c 128 ≡ false → (ltb c 0x800 ≡ true) ⊎ (ltb c 0x800 ≡ false) → 0x80 ≤ c → kind (encode c ++ v) ≡ sign c
+    by-2 f (Logic.inl e) h = high (0xC0 + c / 64) _ (omega arith) f (encode-2 c h (leb-true (suc c) 0x800 e))
+    by-2 f (Logic.inr e) h = let g : 0x800 < suc c = leb-false (suc c) 0x800 e in by-3 f (decide (ltb c 0x10000)) (omega arith)
+
+    by-1 : (ltb c 128 ≡ true) ⊎ (ltb c 128 ≡ false) → kind (encode c ++ v) ≡ sign c
+    by-1 (Logic.inl e) = rw (encode-1 c (leb-true (suc c) 128 e))
+    by-1 (Logic.inr e) = let g : 128 < suc c = leb-false (suc c) 128 e in by-2 e (decide (ltb c 0x800)) (omega arith)
+
+pub begins-ch : (p : ℕ → Bool) (u v : List ℕ) → Ch p u → begins p (u ++ v) ≡ true
+unfolding begins
+begins-ch p u v c = rw (c .bytes, decode-encode (c .char) v (T→true (scalar (c .char)) (c .is-scalar)), T→true (p (c .char)) (c .in-class))
+
+-- no character of the class where a sign of q stands
+pub begins-stop : (p : ℕ → Bool) (q : Class) → (T (q 128) → ⊥) → ((b : ℕ) → b < 128 → T (q b) → p b ≡ false) → (v : List ℕ) → T (q (kind v)) → begins p v ≡ false
+unfolding begins decode1 kind
+begins-stop p q no128 small [] h = refl
+begins-stop p q no128 small (b ∷ v) h = go (decide (ltb b 128))
+  where
+    go : (ltb b 128 ≡ true) ⊎ (ltb b 128 ≡ false) → begins p (b ∷ v) ≡ false
+    go (Logic.inl e) = rw (decode-1 b v (leb-true (suc b) 128 e)) (small b (leb-true (suc b) 128 e) (rw e at h))
+    go (Logic.inr e) = absurd (no128 (rw e at h))
+
+pub one-char : (p : ℕ → Bool) (n : Refusal) (f : Class) → ((c : ℕ) → T (p c) → T (f (sign c))) → Reads (char p n) (Ch p) (Next any) f
+unfolding char Text
+one-char p n f lead = record { sound = λ w k tw e. sound-by w k tw (decode1 w) refl e; complete = complete-by; leads = leads-by }
+  where
+    taken-by : (w : List ℕ) (k c j : ℕ) → Text w → decode1 w ≡ point c j → (t : Bool) → p c ≡ t → pick t (ok j) (err n) ≡ ok k → Took (Ch p) k w
+    taken-by w k c j tw e false g h = absurd (err-ok n k h)
+    taken-by w k c j tw e true g h =
+        let r : Read c j w = decode-read c j w e in
+        record {
+          taken = encode c;
+          rest = r .rest;
+          split = r .split;
+          size = r .size ∙ ok-inj j k h;
+          holds = record { char = c; is-scalar = true→T (scalar c) (r .is-scalar); in-class = true→T (p c) g; bytes = refl };
+          left = text-after c (r .rest) (r .is-scalar) (r .split) tw;
+        }
+
+    sound-by : (w : List ℕ) (k : ℕ) → Text w → (x : Point) → decode1 w ≡ x → of-point x (λ c j. pick (p c) (ok j) (err n)) (err n) ≡ ok k → Took (Ch p) k w
+    sound-by w k tw no-point f e = absurd (err-ok n k e)
+    sound-by w k tw (point c j) f e = taken-by w k c j tw f (p c) refl e
+
+    complete-by : (u v : List ℕ) → Ch p u → Next any v → char p n (u ++ v) ≡ ok (length u)
+    complete-by u v c t = rw (c .bytes, decode-encode (c .char) v (T→true (scalar (c .char)) (c .is-scalar)), T→true (p (c .char)) (c .in-class))
+
+    leads-by : Leads (Ch p) (Next any) f
+    leads-by u v c t = rw (c .bytes, kind-encode (c .char) v) (lead (c .char) (c .in-class))

@@ -1,0 +1,140 @@
+-- Runs of bytes of an ASCII class, and white space. Assumes nothing.
+use mathlib.Core.Logic
+use mathlib.Core.Bool.{Bool, true, false, not, true≢false}
+use mathlib.Core.List.{List, [], _∷_, _++_, append-assoc}
+use mathlib.Core.Logic.{_⊎_}
+use mathlib.Core.Path.{_≡_, refl, sym, _∙_, ap}
+use Prim.Native.Nat.{ℕ, suc, _+_, _<_}
+use native.Mathlib.Omega.{arith}
+use lib.Dec.{T, ltb, eqb}
+use lib.ListN.{length, length-append}
+use Rattle.spec.specs.Basics.{pick}
+use Rattle.spec.specs.Grammar.Characters.{Text, space, S, S?}
+use Rattle.spec.specs.Grammar.Languages.{Lang, ascii, Ch, inl, inr, Star, end, more, Plus, any, among}
+use Rattle.spec.specs.Reading.Dtd.{skip-s, require-s}
+use Rattle.spec.specs.Reading.Readers.{Result, ok, err, Reader, on-ok, run, required, char}
+use Rattle.spec.specs.Reading.Refusals.{Refusal, no-space}
+use Rattle.spec.proofs.Agreement.Chars.{kind-encode, sign, ch-some}
+use Rattle.spec.proofs.Agreement.Reads.{Took, Reads, Next, next, Leads}
+use Rattle.spec.proofs.Agreement.Signs.{kind, kind-ascii, Class, Sub, sub-at, _∪_, in-left, in-right}
+use Rattle.spec.proofs.Base.Results.{err-ok, ok-inj}
+use Rattle.spec.proofs.Base.Tests.{T→true, true→T, false→no, decide, leb-yes, leb-true, eqb-true, eqb-yes, eqb-no, and-left, and-right, or-cases}
+use Rattle.spec.proofs.Characters.Text.{ascii-char, text-rest, star-one, all-ascii}
+use Rattle.spec.proofs.Characters.Utf8.{encode-1}
+
+-- a sign among ASCII signs is ASCII
+pub among-ascii : (s : List ℕ) → T (all-ascii s) → (c : ℕ) → T (among s c) → c < 128
+among-ascii [] h c t = absurd t
+among-ascii (b ∷ bs) h c t = go (among-ascii bs (true→T (all-ascii bs) (and-right (ltb b 128) (all-ascii bs) (T→true (all-ascii (b ∷ bs)) h))) c) (or-cases (eqb c b) (among bs c) (T→true (among (b ∷ bs) c) t))
+  where
+    go : (T (among bs c) → c < 128) → (eqb c b ≡ true) ⊎ (among bs c ≡ true) → c < 128
+    go next (Logic.inl e) =
+        let f : c ≡ b = eqb-true c b e in
+        let g : b < 128 = leb-true (suc b) 128 (and-left (ltb b 128) (all-ascii bs) (T→true (all-ascii (b ∷ bs)) h)) in
+        omega arith
+    go next (Logic.inr e) = next (true→T (among bs c) e)
+
+-- a run of bytes of an ASCII class
+module _ (p : ℕ → Bool) (small : (c : ℕ) → T (p c) → c < 128) where
+  pub run-took : (w : List ℕ) → Text w → Took (Star (Ch p)) (run p w) w
+  unfolding run Text
+  run-took [] tw = record { taken = []; rest = []; split = refl; size = refl; holds = end refl; left = tw }
+  run-took (b ∷ w) tw = go (p b) refl (run-took w)
+    where
+      go : (t : Bool) → p b ≡ t → (Text w → Took (Star (Ch p)) (run p w) w) → Took (Star (Ch p)) (pick t (suc (run p w)) 0) (b ∷ w)
+      go false e ih = record { taken = []; rest = b ∷ w; split = refl; size = refl; holds = end refl; left = tw }
+      go true e ih =
+          let h : b < 128 = small b (true→T (p b) e) in
+          let t : Took (Star (Ch p)) (run p w) w = ih (text-rest w (star-one (ascii-char any b h tt)) tw) in
+          record {
+            taken = b ∷ t .taken;
+            rest = t .rest;
+            split = ap (λ (x : List ℕ). b ∷ x) (t .split);
+            size = ap suc (t .size);
+            holds = more (b ∷ []) (t .taken) refl (ascii-char p b h (true→T (p b) e)) (t .holds);
+            left = t .left;
+          }
+
+  pub run-stop : (q : Class) → Sub q (λ k. not (p k)) → (v : List ℕ) → T (q (kind v)) → run p v ≡ 0
+  unfolding run kind
+  run-stop q h [] t = refl
+  run-stop q h (b ∷ v) t = go (decide (p b))
+    where
+      go : (p b ≡ true) ⊎ (p b ≡ false) → run p (b ∷ v) ≡ 0
+      go (Logic.inr e) = rw e
+      go (Logic.inl e) =
+          let x : T (not (p (kind (b ∷ v)))) = sub-at q (λ k. not (p k)) h (b ∷ v) t in
+          let y : T (not (p b)) = rw (kind-ascii b v (small b (true→T (p b) e))) at x in
+          let z : not true ≡ true = ap not (sym e) ∙ T→true (not (p b)) y in
+          absurd (true≢false (sym z))
+
+  pub run-complete : (q : Class) → Sub q (λ k. not (p k)) → {u : List ℕ} (v : List ℕ) → Star (Ch p) u → T (q (kind v)) → run p (u ++ v) ≡ length u
+  unfolding run
+  run-complete q h v (end e) t = rw e (run-stop q h v t)
+  run-complete q h {u} v (more x y e c s) t =
+      let b : x ≡ c .char ∷ [] = c .bytes ∙ encode-1 (c .char) (small (c .char) (c .in-class)) in
+      rw (e, b, T→true (p (c .char)) (c .in-class), run-complete q h v s t)
+
+  pub run-reads : (q : Class) → Sub q (λ k. not (p k)) → Reads (λ w. ok (run p w)) (Star (Ch p)) (Next q) (p ∪ q)
+  run-reads q h = record {
+    sound = λ w k tw e. let t = run-took w tw in record { taken = t .taken; rest = t .rest; split = t .split; size = t .size ∙ ok-inj (run p w) k e; holds = t .holds; left = t .left };
+    complete = λ u v s t. ap ok (run-complete q h v s (t .it));
+    leads = λ u v s t. leads-by v s (t .it);
+  }
+    where
+      leads-by : {u : List ℕ} (v : List ℕ) → Star (Ch p) u → T (q (kind v)) → T ((p ∪ q) (kind (u ++ v)))
+      leads-by v (end e) t = rw e (in-right (p (kind v)) (q (kind v)) t)
+      leads-by v (more x y e c s) t =
+          let b : x ≡ c .char ∷ [] = c .bytes ∙ encode-1 (c .char) (small (c .char) (c .in-class)) in
+          rw (e, b, kind-ascii (c .char) (y ++ v) (small (c .char) (c .in-class))) (in-left (p (c .char)) (q (c .char)) (c .in-class))
+
+-- at least one
+pub at-least-one : {r : Reader} {L F : Lang} {g : Class} (n : Refusal) (f : Class) → ((u : List ℕ) → L u → 0 < length u) → ((u v : List ℕ) → L u → T (f (kind (u ++ v))))
+    → Reads r (Star L) F g → Reads (required n r) (Plus L) F f
+unfolding required
+at-least-one {r} {L} {F} {g} n f some-L lead a = record { sound = λ w k tw e. by-first w k tw (r w) refl e; complete = complete-by; leads = leads-by }
+  where
+    plus : (u : List ℕ) → Star L u → 0 < length u → Plus L u
+    plus u (end e) h = absurd (let z : length u ≡ 0 = ap length e in omega arith)
+    plus u (more x y e l s) h = record { left = x; right = y; split = e; first = l; second = s }
+
+    by-zero : (w : List ℕ) (k j : ℕ) → Took (Star L) j w → (t : Bool) → eqb j 0 ≡ t → pick t (err n) (ok j) ≡ ok k → Took (Plus L) k w
+    by-zero w k j o true f e = absurd (err-ok n k e)
+    by-zero w k j o false f e =
+        let h : j ≡ 0 → ⊥ = λ z. false→no (eqb j 0) f (true→T (eqb j 0) (eqb-yes j 0 z)) in
+        let l : length (o .taken) ≡ j = o .size in
+        record { taken = o .taken; rest = o .rest; split = o .split; size = o .size ∙ ok-inj j k e; holds = plus (o .taken) (o .holds) (omega arith); left = o .left }
+
+    by-first : (w : List ℕ) (k : ℕ) → Text w → (x : Result) → r w ≡ x → on-ok x (λ j. pick (eqb j 0) (err n) (ok j)) ≡ ok k → Took (Plus L) k w
+    by-first w k tw (err m) f e = absurd (err-ok m k e)
+    by-first w k tw (ok j) f e = by-zero w k j (a .sound w j tw f) (eqb j 0) refl e
+
+    complete-by : (u v : List ℕ) → Plus L u → F v → required n r (u ++ v) ≡ ok (length u)
+    complete-by u v l t =
+        let b : r (u ++ v) ≡ ok (length u) = a .complete u v (more (l .left) (l .right) (l .split) (l .first) (l .second)) t in
+        let z : 0 < length (l .left) = some-L (l .left) (l .first) in
+        let c : length u ≡ length (l .left) + length (l .right) = ap length (l .split) ∙ length-append (l .left) (l .right) in
+        rw (b, eqb-no (length u) 0 (λ o. omega arith))
+
+    leads-by : Leads (Plus L) F f
+    leads-by u v l t = rw (l .split, append-assoc (l .left) (l .right) v) (lead (l .left) (l .right ++ v) (l .first))
+
+-- a character of an ASCII class is its own sign
+pub ascii-lead : (p : ℕ → Bool) → ((c : ℕ) → T (p c) → c < 128) → (c : ℕ) → T (p c) → T (p (sign c))
+ascii-lead p small c t = rw (leb-yes (suc c) 128 (small c t)) t
+
+-- S? and S: what follows is no white space
+pub space-ascii : (c : ℕ) → T (space c) → c < 128
+space-ascii = among-ascii (ascii " \t\r\n") tt
+
+abbrev pub not-space : Class
+not-space k = not (space k)
+
+pub skip : (q : Class) → Sub q not-space → Reads skip-s S? (Next q) (space ∪ q)
+unfolding skip-s S?
+skip q h = run-reads space space-ascii q h
+
+pub need : (q : Class) → Sub q not-space → Reads require-s S (Next q) space
+unfolding require-s S S?
+need q h =
+    at-least-one no-space space ch-some (λ u v c. rw (c .bytes, kind-encode (c .char) v) (ascii-lead space space-ascii (c .char) (c .in-class))) (skip q h)

@@ -1,0 +1,90 @@
+-- The sign that a text begins with, and classes of signs: which may follow is decided by computing. Assumes nothing.
+use mathlib.Core.Logic
+use mathlib.Core.Bool.{Bool, true, false, _&&_, _||_, not}
+use mathlib.Core.List.{List, [], _∷_}
+use mathlib.Core.Logic.{_⊎_}
+use mathlib.Core.Path.{_≡_, refl, _∙_, ap, subst}
+use Prim.Native.Nat.{ℕ, zero, suc, _<_}
+use native.Mathlib.Omega.{arith}
+use lib.Dec.{T, ltb, eqb, eqb-refl}
+use Rattle.spec.specs.Basics.{pick}
+use Rattle.spec.specs.Grammar.Languages.{inl, inr, any}
+use Rattle.spec.proofs.Base.Tests.{T→true, true→T, false→no, decide, leb-yes, leb-true, eqb-true, and-left, and-right}
+
+-- The sign that a text begins with: an ASCII byte, 128 for any other byte, 129 at the text's end. A class is a test of signs.
+unfoldable pub kind : List ℕ → ℕ
+kind [] = 129
+kind (b ∷ bs) = pick (ltb b 128) b 128
+
+abbrev pub Class : Type 0
+Class = ℕ → Bool
+
+abbrev pub below : ℕ → Class → Bool
+below zero f = true
+below (suc n) f = f n && below n f
+
+-- each sign of the one class is in the other
+pub record Sub (p q : Class) : Type 0 where
+  pub at : (k : ℕ) → k < 130 → T (p k) → T (q k)
+
+pub below-at : (n : ℕ) (f : Class) → below n f ≡ true → (k : ℕ) → k < n → f k ≡ true
+below-at zero f e k h = absurd (let z : k < 0 = h in omega arith)
+below-at (suc n) f e k h = go (below-at n f (and-right (f n) (below n f) e) k) (decide (eqb k n))
+  where
+    go : (k < n → f k ≡ true) → (eqb k n ≡ true) ⊎ (eqb k n ≡ false) → f k ≡ true
+    go next (Logic.inl x) = ap f (eqb-true k n x) ∙ and-left (f n) (below n f) e
+    go next (Logic.inr x) = next (let y : k ≡ n → ⊥ = λ z. false→no (eqb k n) x (subst (λ (m : ℕ). T (eqb k m)) z (eqb-refl k)) in omega arith)
+
+kind-below : (v : List ℕ) → kind v < 130
+unfolding kind
+kind-below [] = omega arith
+kind-below (b ∷ bs) = go (ltb b 128) refl
+  where
+    go : (t : Bool) → ltb b 128 ≡ t → pick t b 128 < 130
+    go true e = let h : b < 128 = leb-true (suc b) 128 e in omega arith
+    go false e = omega arith
+
+imp : (a b : Bool) → (not a || b) ≡ true → T a → T b
+imp true b e t = true→T b e
+imp false b e t = absurd t
+
+pub sub-at : (p q : Class) → Sub p q → (v : List ℕ) → T (p (kind v)) → T (q (kind v))
+sub-at p q s v t = s .at (kind v) (kind-below v) t
+
+-- by computing both classes at each sign
+pub by-signs : {p q : Class} → T (below 130 (λ k. not (p k) || q k)) → Sub p q
+by-signs {p} {q} s = record { at = λ k h t. imp (p k) (q k) (below-at 130 (λ k. not (p k) || q k) (T→true (below 130 (λ k. not (p k) || q k)) s) k h) t }
+
+infixr 45 _∪_
+abbrev pub _∪_ : Class → Class → Class
+(p ∪ q) k = p k || q k
+
+pub in-left : (a b : Bool) → T a → T (a || b)
+in-left true b t = tt
+in-left false b t = absurd t
+
+pub in-right : (a b : Bool) → T b → T (a || b)
+in-right true b t = tt
+in-right false b t = t
+
+pub sub-any : {p : Class} → Sub p any
+sub-any = record { at = λ k h t. tt }
+
+pub sub-refl : {p : Class} → Sub p p
+sub-refl = record { at = λ k h t. t }
+
+pub sub-trans : {p q r : Class} → Sub p q → Sub q r → Sub p r
+sub-trans a b = record { at = λ k h t. b .at k h (a .at k h t) }
+
+pub sub-either : {p q r : Class} → Sub p r → Sub q r → Sub (p ∪ q) r
+sub-either {p} {q} {r} a b = record { at = λ k h t. go k h (p k) (q k) refl refl t }
+  where
+    go : (k : ℕ) → k < 130 → (x y : Bool) → p k ≡ x → q k ≡ y → T (x || y) → T (r k)
+    go k h true y e f t = a .at k h (true→T (p k) e)
+    go k h false true e f t = b .at k h (true→T (q k) f)
+    go k h false false e f t = absurd t
+
+-- an ASCII byte that stands first is the sign
+pub kind-ascii : (a : ℕ) (v : List ℕ) → a < 128 → kind (a ∷ v) ≡ a
+unfolding kind
+kind-ascii a v h = rw (leb-yes (suc a) 128 h)

@@ -1,0 +1,78 @@
+-- The text's end, and readers of whole texts. Assumes nothing.
+use mathlib.Core.Bool.{Bool, true, false}
+use mathlib.Core.List.{List, [], _∷_, _++_, append-nil}
+use mathlib.Core.Path.{_≡_, refl, sym, _∙_, ap, subst}
+use Prim.Native.Nat.{ℕ, suc, _+_, _<_}
+use native.Mathlib.Omega.{arith}
+use lib.Dec.{T, ltb, eqb, eqb→eq}
+use lib.ListN.{length, drop}
+use lib.Seq.{drop-drop, drop-nil}
+use Rattle.spec.specs.Basics.{pick}
+use Rattle.spec.specs.Grammar.Characters.{Text}
+use Rattle.spec.specs.Grammar.Languages.{Lang}
+use Rattle.spec.specs.Reading.Readers.{ok, Reader, _>>_, at-end, Result, err, on-ok, past}
+use Rattle.spec.specs.Reading.Refusals.{Refusal}
+use Rattle.spec.proofs.Agreement.Algebra.{ε}
+use Rattle.spec.proofs.Agreement.Reads.{Took, Reads, Next, drop-took}
+use Rattle.spec.proofs.Agreement.Signs.{kind, Class}
+use Rattle.spec.proofs.Base.Results.{err-ok, ok-inj}
+use Rattle.spec.proofs.Base.Tests.{leb-true}
+
+-- the text's end
+abbrev pub stop : Class
+stop k = eqb k 129
+
+pub stop-nil : (v : List ℕ) → T (stop (kind v)) → v ≡ []
+unfolding kind
+stop-nil [] t = refl
+stop-nil (b ∷ v) t = absurd (go (ltb b 128) refl t)
+  where
+    go : (x : Bool) → ltb b 128 ≡ x → T (stop (pick x b 128)) → ⊥
+    go true e h = let f : b < 128 = leb-true (suc b) 128 e in let g : b ≡ 129 = eqb→eq b 129 h in omega arith
+    go false e h = h
+
+pub at-end-reads : (n : Refusal) → Reads (at-end n) ε (Next stop) stop
+unfolding at-end
+at-end-reads n = record {
+  sound = sound-by;
+  complete = λ u v e t. ap (at-end n) (λ i. e i ++ stop-nil v (t .it) i) ∙ ap (λ (x : List ℕ). ok (length x)) (sym e);
+  leads = λ u v e t. subst (λ (x : List ℕ). T (stop (kind (x ++ v)))) (sym e) (t .it);
+}
+  where
+    sound-by : (w : List ℕ) (k : ℕ) → Text w → at-end n w ≡ ok k → Took ε k w
+    sound-by [] k tw e = record { taken = []; rest = []; split = refl; size = ok-inj 0 k e; holds = refl; left = tw }
+    sound-by (b ∷ w) k tw e = absurd (err-ok n k e)
+
+-- a reader that takes nothing but whole texts
+abbrev pub Ends : Reader → Type 0
+Ends r = (w : List ℕ) (k : ℕ) → r w ≡ ok k → drop k w ≡ []
+
+pub ends-seq : (r s : Reader) → Ends s → Ends (r >> s)
+unfolding _>>_
+ends-seq r s h w n e = by-first (r w) e
+  where
+    by-second : (k : ℕ) (a : Result) → s (drop k w) ≡ a → past k a ≡ ok n → drop n w ≡ []
+    by-second k (err m) f g = absurd (err-ok m n g)
+    by-second k (ok j) f g = ap (λ (m : ℕ). drop m w) (sym (ok-inj (k + j) n g)) ∙ sym (drop-drop j k w) ∙ h (drop k w) j f
+
+    by-first : (a : Result) → on-ok a (λ k. past k (s (drop k w))) ≡ ok n → drop n w ≡ []
+    by-first (err m) g = absurd (err-ok m n g)
+    by-first (ok k) g = by-second k (s (drop k w)) refl g
+
+pub ends-at-end : (n : Refusal) → Ends (at-end n)
+unfolding at-end
+ends-at-end n [] k e = drop-nil k
+ends-at-end n (b ∷ w) k e = absurd (err-ok n k e)
+
+pub record Whole (body : Reader) (B : Lang) : Type 0 where
+  pub sound : (u : List ℕ) (j : ℕ) → Text u → body u ≡ ok j → B u
+  pub complete : (u : List ℕ) → B u → body u ≡ ok (length u)
+
+pub whole : {body : Reader} {B : Lang} {f : Class} → Reads body B (Next stop) f → Ends body → Whole body B
+unfolding kind
+whole {body} {B} a h = record {
+  sound = λ u j tu e.
+      let t : Took B j u = a .sound u j tu e in
+      subst B (sym (t .split ∙ ap (λ (z : List ℕ). t .taken ++ z) (sym (drop-took t) ∙ h u j e) ∙ append-nil (t .taken))) (t .holds);
+  complete = λ u b. ap body (sym (append-nil u)) ∙ a .complete u [] b (record { it = tt });
+}

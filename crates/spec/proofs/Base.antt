@@ -1,0 +1,6 @@
+-- Tests, places, answers and loops: laws for agreement and for code alike.
+pub mod Tests
+pub mod Places
+pub mod Results
+pub mod Loops
+pub mod Somes

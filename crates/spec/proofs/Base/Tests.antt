@@ -1,0 +1,101 @@
+-- Tests and the facts that they stand for. Assumes nothing.
+use mathlib.Core.Bool.{Bool, true, false, _&&_, _||_, not, true≢false}
+use mathlib.Core.Logic.{_⊎_, inl, inr}
+use mathlib.Core.Path.{_≡_, refl, sym, subst}
+use Prim.Native.Nat.{ℕ, _≤_, _<_}
+use native.Mathlib.Omega.{arith}
+use lib.Dec.{T, leb, eqb, leb→le, le→leb, nleb→lt, eqb→eq, eqb-refl}
+use Rattle.spec.specs.Basics.{within}
+
+pub T→true : (b : Bool) → T b → b ≡ true
+T→true true t = refl
+T→true false t = absurd t
+
+pub true→T : (b : Bool) → b ≡ true → T b
+true→T true e = tt
+true→T false e = absurd (true≢false (sym e))
+
+pub no→false : (b : Bool) → (T b → ⊥) → b ≡ false
+no→false true f = absurd (f tt)
+no→false false f = refl
+
+pub false→no : (b : Bool) → b ≡ false → T b → ⊥
+false→no true e t = true≢false e
+false→no false e t = t
+
+-- a test is passed or not
+pub decide : (b : Bool) → (b ≡ true) ⊎ (b ≡ false)
+decide true = inl refl
+decide false = inr refl
+
+pub leb-yes : (m n : ℕ) → m ≤ n → leb m n ≡ true
+leb-yes m n h = T→true (leb m n) (le→leb m n h)
+
+pub leb-no : (m n : ℕ) → n < m → leb m n ≡ false
+leb-no m n h = no→false (leb m n) (λ t. let g : m ≤ n = leb→le m n t in omega arith)
+
+pub leb-true : (m n : ℕ) → leb m n ≡ true → m ≤ n
+leb-true m n e = leb→le m n (true→T (leb m n) e)
+
+pub leb-false : (m n : ℕ) → leb m n ≡ false → n < m
+leb-false m n e = nleb→lt m n (subst (λ (b : Bool). T (not b)) (sym e) tt)
+
+pub eqb-true : (m n : ℕ) → eqb m n ≡ true → m ≡ n
+eqb-true m n e = eqb→eq m n (true→T (eqb m n) e)
+
+pub eqb-yes : (m n : ℕ) → m ≡ n → eqb m n ≡ true
+eqb-yes m n e = T→true (eqb m n) (subst (λ (k : ℕ). T (eqb m k)) e (eqb-refl m))
+
+pub eqb-no : (m n : ℕ) → (m ≡ n → ⊥) → eqb m n ≡ false
+eqb-no m n f = no→false (eqb m n) (λ t. f (eqb→eq m n t))
+
+pub and-left : (a b : Bool) → (a && b) ≡ true → a ≡ true
+and-left true b e = refl
+and-left false b e = e
+
+pub and-right : (a b : Bool) → (a && b) ≡ true → b ≡ true
+and-right true b e = e
+and-right false b e = absurd (true≢false (sym e))
+
+pub or-cases : (a b : Bool) → (a || b) ≡ true → (a ≡ true) ⊎ (b ≡ true)
+or-cases true b e = inl refl
+or-cases false b e = inr e
+
+pub or-false-left : (a b : Bool) → (a || b) ≡ false → a ≡ false
+or-false-left true b e = e
+or-false-left false b e = refl
+
+pub or-false-right : (a b : Bool) → (a || b) ≡ false → b ≡ false
+or-false-right true b e = absurd (true≢false e)
+or-false-right false b e = e
+
+pub within-yes : (lo hi n : ℕ) → lo ≤ n → n ≤ hi → within lo hi n ≡ true
+within-yes lo hi n h g = rw (leb-yes lo n h, leb-yes n hi g)
+
+pub within-low : (lo hi n : ℕ) → n < lo → within lo hi n ≡ false
+within-low lo hi n h = rw (leb-no lo n h)
+
+pub within-high : (lo hi n : ℕ) → hi < n → within lo hi n ≡ false
+within-high lo hi n h = go (leb lo n)
+  where
+    go : (b : Bool) → (b && leb n hi) ≡ false
+    go true = leb-no n hi h
+    go false = refl
+
+pub within-lo : (lo hi n : ℕ) → within lo hi n ≡ true → lo ≤ n
+within-lo lo hi n e = leb-true lo n (and-left (leb lo n) (leb n hi) e)
+
+pub within-hi : (lo hi n : ℕ) → within lo hi n ≡ true → n ≤ hi
+within-hi lo hi n e = leb-true n hi (and-right (leb lo n) (leb n hi) e)
+
+-- two tests that come out alike are the same
+abbrev pub alike : Bool → Bool → Bool
+alike true b = b
+alike false true = false
+alike false false = true
+
+pub alike-same : (a b : Bool) → alike a b ≡ true → a ≡ b
+alike-same true true e = refl
+alike-same true false e = sym e
+alike-same false true e = e
+alike-same false false e = refl

@@ -1,0 +1,164 @@
+-- The bytes of characters: above ASCII, tails, and bytes that a text does not have. Assumes nothing.
+use mathlib.Core.Logic
+use mathlib.Core.Bool.{Bool, true, false, _&&_, _||_, not, true≢false}
+use mathlib.Core.List.{List, [], _∷_, _++_}
+use mathlib.Core.Logic.{_⊎_}
+use mathlib.Core.Path.{_≡_, refl, sym, _∙_, ap, subst}
+use Prim.Native.Nat.{ℕ, suc, _+_, _/_, _%_, _≤_, _<_}
+use native.Mathlib.Omega.{arith}
+use lib.Dec.{T, leb, ltb, eqb}
+use lib.ListN.{length, length-append}
+use Rattle.spec.specs.Grammar.Languages.{Ch, inl, inr, Star, end, more, any}
+use Rattle.spec.specs.Grammar.Utf8.{encode}
+use Rattle.spec.specs.Reading.Utf8.{tail}
+use Rattle.spec.proofs.Base.Tests.{T→true, true→T, false→no, decide, leb-yes, leb-true, leb-false, eqb-yes, eqb-no, and-left, and-right, within-yes, within-lo}
+use Rattle.spec.proofs.Characters.Utf8.{encode-1, encode-2, encode-3, encode-4}
+
+-- bytes that are all above ASCII
+abbrev pub all-high : List ℕ → Bool
+all-high [] = true
+all-high (b ∷ bs) = leb 128 b && all-high bs
+
+pub high-encode : (c : ℕ) → 128 ≤ c → T (all-high (encode c))
+high-encode c h = by-2 (decide (ltb c 0x800))
+  where
+    by-3 : 0x800 ≤ c → (ltb c 0x10000 ≡ true) ⊎ (ltb c 0x10000 ≡ false) → T (all-high (encode c))
+    by-3 h (Logic.inl e) = rw (encode-3 c h (leb-true (suc c) 0x10000 e), leb-yes 128 (0xE0 + c / 4096) (omega arith), leb-yes 128 (0x80 + c / 64 % 64) (omega arith), leb-yes 128 (0x80 + c % 64) (omega arith)) tt
+    by-3 h (Logic.inr e) =
+        let g : 0x10000 < suc c = leb-false (suc c) 0x10000 e in
+        rw (encode-4 c (omega arith), leb-yes 128 (0xF0 + c / 262144) (omega arith), leb-yes 128 (0x80 + c / 4096 % 64) (omega arith), leb-yes 128 (0x80 + c / 64 % 64) (omega arith), leb-yes 128 (0x80 + c % 64) (omega arith)) tt
+
+    by-2 : (ltb c 0x800 ≡ true) ⊎ (ltb c 0x800 ≡ false) → T (all-high (encode c))
+    by-2 (Logic.inl e) = rw (encode-2 c h (leb-true (suc c) 0x800 e), leb-yes 128 (0xC0 + c / 64) (omega arith), leb-yes 128 (0x80 + c % 64) (omega arith)) tt
+    by-2 (Logic.inr e) = let g : 0x800 < suc c = leb-false (suc c) 0x800 e in by-3 (omega arith) (decide (ltb c 0x10000))
+
+pub high-head : (b : ℕ) (bs : List ℕ) → T (all-high (b ∷ bs)) → 128 ≤ b
+high-head b bs h = leb-true 128 b (and-left (leb 128 b) (all-high bs) (T→true (all-high (b ∷ bs)) h))
+
+pub high-tail : (b : ℕ) (bs : List ℕ) → T (all-high (b ∷ bs)) → T (all-high bs)
+high-tail b bs h = true→T (all-high bs) (and-right (leb 128 b) (all-high bs) (T→true (all-high (b ∷ bs)) h))
+
+-- an ASCII byte stands after bytes above ASCII, not among them
+pass : (x y u : List ℕ) (a : ℕ) (v : List ℕ) → T (all-high x) → a < 128 → x ++ y ≡ u ++ a ∷ v → (z : List ℕ) × (u ≡ x ++ z) × (y ≡ z ++ a ∷ v)
+pass [] y u a v h l e = (u, refl, e)
+pass (b ∷ x) y [] a v h l e =
+    let f : b ≡ a = cc in
+    let g : 128 ≤ b = high-head b x h in
+    absurd (omega arith)
+pass (b ∷ x) y (d ∷ u) a v h l e =
+    let f : x ++ y ≡ u ++ a ∷ v = cc in
+    let g : d ≡ b = cc in
+    let (z, p, q) = pass x y u a v (high-tail b x h) l f in
+    (z, (λ i. g i ∷ p i), q)
+
+-- what stands before an ASCII byte of a text is a text
+pub text-front : {w : List ℕ} (u : List ℕ) (a : ℕ) (v : List ℕ) → a < 128 → w ≡ u ++ a ∷ v → Star (Ch any) w → Star (Ch any) u
+text-front u a v l e (end f) = let n : length (u ++ a ∷ v) ≡ 0 = ap length (sym e ∙ f) in absurd (omega (arith, length-append u (a ∷ v)))
+text-front u a v l e (more x y f c s) = go (decide (ltb (c .char) 128)) (λ z g. text-front z a v l g s)
+  where
+    go : (ltb (c .char) 128 ≡ true) ⊎ (ltb (c .char) 128 ≡ false) → ((z : List ℕ) → y ≡ z ++ a ∷ v → Star (Ch any) z) → Star (Ch any) u
+    go (Logic.inl t) ih = ascii-case u (sym (ap (λ (x : List ℕ). x ++ y) (c .bytes ∙ encode-1 (c .char) (leb-true (suc (c .char)) 128 t))) ∙ sym f ∙ e)
+      where
+        ascii-case : (u : List ℕ) → c .char ∷ y ≡ u ++ a ∷ v → Star (Ch any) u
+        ascii-case [] g = end refl
+        ascii-case (b ∷ u) g =
+            let p : c .char ≡ b = cc in
+            let q : y ≡ u ++ a ∷ v = cc in
+            let k : x ≡ b ∷ [] = c .bytes ∙ encode-1 (c .char) (leb-true (suc (c .char)) 128 t) ∙ ap (λ (z : ℕ). z ∷ []) p in
+            more x u (sym (ap (λ (z : List ℕ). z ++ u) k)) c (ih u q)
+    go (Logic.inr t) ih =
+        let g : 128 < suc (c .char) = leb-false (suc (c .char)) 128 t in
+        let h : T (all-high x) = rw (c .bytes) (high-encode (c .char) (omega arith)) in
+        let (z, p, q) = pass x y u a v h l (sym f ∙ e) in
+        more x z p c (ih z q)
+
+-- no byte is a
+abbrev pub avoids : ℕ → List ℕ → Bool
+avoids a [] = true
+avoids a (b ∷ bs) = not (eqb b a) && avoids a bs
+
+pub avoids-append : (a : ℕ) (u v : List ℕ) → avoids a (u ++ v) ≡ (avoids a u && avoids a v)
+avoids-append a [] v = refl
+avoids-append a (b ∷ u) v = go (not (eqb b a)) (avoids-append a u v)
+  where
+    go : (t : Bool) → avoids a (u ++ v) ≡ (avoids a u && avoids a v) → (t && avoids a (u ++ v)) ≡ (t && avoids a u && avoids a v)
+    go true e = e
+    go false e = refl
+
+pub avoids-high : (a : ℕ) (u : List ℕ) → a < 128 → T (all-high u) → avoids a u ≡ true
+avoids-high a [] l h = refl
+avoids-high a (b ∷ u) l h = let g : 128 ≤ b = high-head b u h in rw (eqb-no b a (λ e. omega arith), avoids-high a u l (high-tail b u h))
+
+-- characters of a class without a have no byte a, and the other way round
+pub class-avoids : (p : ℕ → Bool) (a : ℕ) → a < 128 → p a ≡ false → {u : List ℕ} → Star (Ch p) u → avoids a u ≡ true
+class-avoids p a l n (end e) = rw e
+class-avoids p a l n (more x y e c s) =
+    rw (e, avoids-append a x y, class-avoids p a l n s, first (decide (ltb (c .char) 128)))
+  where
+    differs : c .char ≡ a → ⊥
+    differs f = false→no (p a) n (subst (λ (k : ℕ). T (p k)) f (c .in-class))
+
+    first : (ltb (c .char) 128 ≡ true) ⊎ (ltb (c .char) 128 ≡ false) → avoids a x ≡ true
+    first (Logic.inl t) = rw (c .bytes, encode-1 (c .char) (leb-true (suc (c .char)) 128 t), eqb-no (c .char) a differs)
+    first (Logic.inr t) =
+        let g : 128 < suc (c .char) = leb-false (suc (c .char)) 128 t in
+        rw (c .bytes) (avoids-high a (encode (c .char)) l (high-encode (c .char) (omega arith)))
+
+pub avoids-char : (q p : ℕ → Bool) (a : ℕ) → a < 128 → ((c : ℕ) → T (q c) → (c ≡ a → ⊥) → T (p c)) → {u : List ℕ} → Ch q u → avoids a u ≡ true → Ch p u
+avoids-char q p a l in-p c h = record { char = c .char; is-scalar = c .is-scalar; in-class = in-p (c .char) (c .in-class) differs; bytes = c .bytes }
+  where
+    differs : c .char ≡ a → ⊥
+    differs k =
+        let z : avoids a (a ∷ []) ≡ true = ap (avoids a) (sym (c .bytes ∙ ap encode k ∙ encode-1 a l)) ∙ h in
+        let o : not true ≡ true = ap not (sym (eqb-yes a a refl)) ∙ and-left (not (eqb a a)) true z in
+        true≢false (sym o)
+
+pub avoids-parted : (a : ℕ) (x y : List ℕ) → avoids a (x ++ y) ≡ true → (avoids a x ≡ true) × (avoids a y ≡ true)
+avoids-parted a x y e = let f : (avoids a x && avoids a y) ≡ true = sym (avoids-append a x y) ∙ e in (and-left (avoids a x) (avoids a y) f, and-right (avoids a x) (avoids a y) f)
+
+pub avoids-class : (q p : ℕ → Bool) (a : ℕ) → a < 128 → ((c : ℕ) → T (q c) → (c ≡ a → ⊥) → T (p c)) → {u : List ℕ} → Star (Ch q) u → avoids a u ≡ true → Star (Ch p) u
+avoids-class q p a l in-p (end e) h = end e
+avoids-class q p a l in-p (more x y e c s) h =
+    let (g, i) = avoids-parted a x y (ap (avoids a) (sym e) ∙ h) in
+    more x y e (avoids-char q p a l in-p c g) (avoids-class q p a l in-p s i)
+
+pub not-one : (a c : ℕ) → (c ≡ a → ⊥) → T (not (eqb c a || false))
+not-one a c f = rw (eqb-no c a f) tt
+
+-- the bytes of a character: the first one, and tails
+abbrev pub all-tails : List ℕ → Bool
+all-tails [] = true
+all-tails (b ∷ bs) = tail b && all-tails bs
+
+pub record Bytes (c : ℕ) : Type 0 where
+  pub head : ℕ
+  pub tails : List ℕ
+  pub are : encode c ≡ head ∷ tails
+  pub tailed : all-tails tails ≡ true
+
+tail-yes : (n : ℕ) → tail (0x80 + n % 64) ≡ true
+tail-yes n = within-yes 0x80 0xBF (0x80 + n % 64) (omega arith) (omega arith)
+
+pub bytes-of : (c : ℕ) → Bytes c
+bytes-of c = by-1 (decide (ltb c 0x80))
+  where
+    by-3 : 0x800 ≤ c → (ltb c 0x10000 ≡ true) ⊎ (ltb c 0x10000 ≡ false) → Bytes c
+    by-3 h (Logic.inl e) = record { head = _; tails = _; are = encode-3 c h (leb-true (suc c) 0x10000 e); tailed = rw (tail-yes (c / 64), tail-yes c) }
+    by-3 h (Logic.inr e) =
+        let g : 0x10000 < suc c = leb-false (suc c) 0x10000 e in
+        record { head = _; tails = _; are = encode-4 c (omega arith); tailed = rw (tail-yes (c / 4096), tail-yes (c / 64), tail-yes c) }
+
+    by-2 : 0x80 ≤ c → (ltb c 0x800 ≡ true) ⊎ (ltb c 0x800 ≡ false) → Bytes c
+    by-2 h (Logic.inl e) = record { head = _; tails = _; are = encode-2 c h (leb-true (suc c) 0x800 e); tailed = rw (tail-yes c) }
+    by-2 h (Logic.inr e) = let g : 0x800 < suc c = leb-false (suc c) 0x800 e in by-3 (omega arith) (decide (ltb c 0x10000))
+
+    by-1 : (ltb c 0x80 ≡ true) ⊎ (ltb c 0x80 ≡ false) → Bytes c
+    by-1 (Logic.inl e) = record { head = c; tails = []; are = encode-1 c (leb-true (suc c) 0x80 e); tailed = refl }
+    by-1 (Logic.inr e) = let g : 0x80 < suc c = leb-false (suc c) 0x80 e in by-2 (omega arith) (decide (ltb c 0x800))
+
+-- no tail is an ASCII sign
+pub tails-avoid : (a : ℕ) (x : List ℕ) → a < 128 → all-tails x ≡ true → avoids a x ≡ true
+tails-avoid a [] l h = refl
+tails-avoid a (b ∷ x) l h =
+    let g : 0x80 ≤ b = within-lo 0x80 0xBF b (and-left (tail b) (all-tails x) h) in
+    rw (eqb-no b a (λ e. omega arith), tails-avoid a x l (and-right (tail b) (all-tails x) h))

@@ -1,0 +1,108 @@
+-- The reader of UTF-8 and the grammar's texts; and what stands in front of every public call. Assumes nothing.
+use mathlib.Core.Bool.{Bool, true, false}
+use mathlib.Core.List.{List, [], _∷_, _++_}
+use mathlib.Core.Path.{_≡_, refl, sym, _∙_, ap}
+use Prim.Native.Nat.{ℕ, zero, suc, _+_, _≤_, _<_}
+use native.Mathlib.Omega.{arith}
+use lib.Dec.{ltb}
+use lib.ListN.{length, drop, length-append}
+use lib.Seq.{drop-append-seam, drop-at}
+use Rattle.spec.specs.Basics.{pick}
+use Rattle.spec.specs.Grammar.Characters.{Text}
+use Rattle.spec.specs.Grammar.Languages.{Ch, Star, end, more, any}
+use Rattle.spec.specs.Grammar.Utf8.{scalar, encode}
+use Rattle.spec.specs.Reading.Readers.{ok, err, past, of-point, char}
+use Rattle.spec.specs.Reading.Refusals.{Refusal, too-long, not-utf8}
+use Rattle.spec.specs.Reading.Source.{utf8, limit, admit}
+use Rattle.spec.specs.Reading.Utf8.{Point, point, no-point, decode1}
+use Rattle.spec.proofs.Base.Loops.{through-end, through-turn, through-refused}
+use Rattle.spec.proofs.Base.Results.{err-ok, past-ok}
+use Rattle.spec.proofs.Base.Somes.{some-char}
+use Rattle.spec.proofs.Base.Tests.{T→true, true→T, leb-no, leb-false}
+use Rattle.spec.proofs.Characters.Utf8.{Read, decode-read, decode-encode, encode-nonempty, no-point-is}
+
+-- one character: what it took was a code point of the class
+pub char-point : (p : ℕ → Bool) (n : Refusal) (w : List ℕ) (k : ℕ) → char p n w ≡ ok k → (c : ℕ) × ((decode1 w ≡ point c k) × (p c ≡ true))
+unfolding char
+char-point p n w k = go (decode1 w) refl
+  where
+    by-class : (c j : ℕ) (t : Bool) → p c ≡ t → decode1 w ≡ point c j → pick t (ok j) (err n) ≡ ok k → (c : ℕ) × ((decode1 w ≡ point c k) × (p c ≡ true))
+    by-class c j true f e g = (c, (cc, f))
+    by-class c j false f e g = absurd (err-ok n k g)
+
+    go : (x : Point) → decode1 w ≡ x → of-point x (λ c k. pick (p c) (ok k) (err n)) (err n) ≡ ok k → (c : ℕ) × ((decode1 w ≡ point c k) × (p c ≡ true))
+    go (point c j) e g = by-class c j (p c) refl e g
+    go no-point e g = absurd (err-ok n k g)
+
+-- the character's bytes, one or more, stand in the text
+pub point-size : (c k : ℕ) (w : List ℕ) → decode1 w ≡ point c k → (0 < k) × (k ≤ length w)
+point-size c k w e =
+    let r : Read c k w = decode-read c k w e in
+    let n = encode-nonempty c (r .is-scalar) in
+    let l = ap length (r .split) ∙ length-append (encode c) (r .rest) in
+    let s = r .size in
+    (omega arith, omega arith)
+
+-- the text's end, one code point, and what is none
+pub utf8-end : utf8 [] ≡ ok 0
+unfolding utf8
+utf8-end = through-end (char any not-utf8)
+
+pub utf8-turn : (w : List ℕ) (c k : ℕ) → decode1 w ≡ point c k → utf8 w ≡ past k (utf8 (drop k w))
+unfolding utf8 char decode1
+utf8-turn [] c k e = absurd (no-point-is e)
+utf8-turn (b ∷ w) c k e = through-turn (char any not-utf8) (some-char any not-utf8) b w k (rw e)
+
+pub utf8-stop : (b : ℕ) (w : List ℕ) → decode1 (b ∷ w) ≡ no-point → utf8 (b ∷ w) ≡ err not-utf8
+unfolding utf8 char
+utf8-stop b w e = through-refused (char any not-utf8) b w not-utf8 (rw e)
+
+-- what it takes is a text
+sound-to : (d : ℕ) (w : List ℕ) (k : ℕ) → length w ≤ d → utf8 w ≡ ok k → Star (Ch any) w
+sound-to zero [] k h e = end refl
+sound-to (suc d) [] k h e = end refl
+sound-to zero (b ∷ w) k h e = absurd (omega arith)
+sound-to (suc d) (b ∷ w) k h e = go (decode1 (b ∷ w)) refl (λ x. sound-to d x)
+  where
+    go : (p : Point) → decode1 (b ∷ w) ≡ p → ((x : List ℕ) (i : ℕ) → length x ≤ d → utf8 x ≡ ok i → Star (Ch any) x) → Star (Ch any) (b ∷ w)
+    go no-point f ih = absurd (err-ok not-utf8 k (sym (utf8-stop b w f) ∙ e))
+    go (point c j) f ih =
+        let r : Read c j (b ∷ w) = decode-read c j (b ∷ w) f in
+        let n = point-size c j (b ∷ w) f in
+        let l : suc (length w) ≡ length (encode c) + length (r .rest) = ap length (r .split) ∙ length-append (encode c) (r .rest) in
+        let s : length (encode c) ≡ j = r .size in
+        let x : drop j (b ∷ w) ≡ r .rest = ap (drop j) (r .split) ∙ drop-at (encode c) (r .rest) j s in
+        let (i, g) = past-ok j k (utf8 (drop j (b ∷ w))) (sym (utf8-turn (b ∷ w) c j f) ∙ e) in
+        more (encode c) (r .rest) (r .split) (record { char = c; is-scalar = true→T (scalar c) (r .is-scalar); in-class = tt; bytes = refl })
+        (ih (r .rest) i (omega arith) (ap utf8 (sym x) ∙ g))
+
+pub utf8-sound : (w : List ℕ) (k : ℕ) → utf8 w ≡ ok k → Text w
+unfolding Text
+utf8-sound w k e = sound-to (length w) w k (omega arith) e
+
+-- and each text it takes whole
+complete-to : {w : List ℕ} → Star (Ch any) w → utf8 w ≡ ok (length w)
+complete-to (end e) = ap utf8 e ∙ utf8-end ∙ ap (λ (x : List ℕ). ok (length x)) (sym e)
+complete-to (more u v e l s) =
+    let c = l .char in
+    let d : decode1 (encode c ++ v) ≡ point c (length (encode c)) = decode-encode c v (T→true (scalar c) (l .is-scalar)) in
+    let f = e ∙ ap (λ (x : List ℕ). x ++ v) (l .bytes) in
+    ap utf8 f ∙ utf8-turn (encode c ++ v) c (length (encode c)) d
+    ∙ (rw (drop-append-seam (encode c) v, complete-to s, ← length-append (encode c) v, f))
+
+pub utf8-complete : (w : List ℕ) → Text w → utf8 w ≡ ok (length w)
+unfolding Text
+utf8-complete w t = complete-to t
+
+-- 1 before 2
+pub admit-ok : (w : List ℕ) (k : ℕ) → admit w ≡ ok k → (length w ≤ limit) × Text w
+unfolding admit
+admit-ok w k = go (ltb limit (length w)) refl
+  where
+    go : (t : Bool) → ltb limit (length w) ≡ t → pick t (err too-long) (utf8 w) ≡ ok k → (length w ≤ limit) × Text w
+    go true f e = absurd (err-ok too-long k e)
+    go false f e = let h : length w < suc limit = leb-false (suc limit) (length w) f in (omega arith, utf8-sound w k e)
+
+pub admits : (w : List ℕ) → length w ≤ limit → Text w → (k : ℕ) × (admit w ≡ ok k)
+unfolding admit
+admits w h t = (length w, rw (leb-no (suc limit) (length w) (omega arith), utf8-complete w t))

@@ -1,0 +1,383 @@
+-- Declarations: where a body ends, and whether it is read. Assumes nothing.
+use mathlib.Core.Logic
+use mathlib.Core.Bool.{Bool, true, false, _&&_, _||_, not, true≢false}
+use mathlib.Core.List.{List, [], _∷_, _++_, append-assoc}
+use mathlib.Core.Logic.{_⊎_}
+use mathlib.Core.Path.{_≡_, refl, sym, _∙_, ap, subst}
+use Prim.Native.Nat.{ℕ, zero, suc, _+_, _≤_, _<_}
+use native.Mathlib.Omega.{arith}
+use lib.Dec.{T, ltb, eqb}
+use lib.ListN.{length, take, length-append}
+use lib.Seq.{take-append-seam, take-at}
+use Rattle.spec.specs.Basics.{pick}
+use Rattle.spec.specs.Grammar.Characters.{Text}
+use Rattle.spec.specs.Grammar.Declarations.{Delimited, Unread, declared}
+use Rattle.spec.specs.Grammar.Languages.{Lang, lit, ascii, Ch, _·_, _∣_, inl, inr, Star, end, more, any, one-of, none-of}
+use Rattle.spec.specs.Grammar.Literals.{SystemLiteral}
+use Rattle.spec.specs.Grammar.Names.{Dialect}
+use Rattle.spec.specs.Grammar.Utf8.{scalar, encode}
+use Rattle.spec.specs.Reading.Dtd.{take-decl-body, has-pe-reference, finish-decl}
+use Rattle.spec.specs.Reading.Readers.{Result, ok, err, Reader, on-ok, nothing, begins, of-point, past}
+use Rattle.spec.specs.Reading.Refusals.{unterminated}
+use Rattle.spec.specs.Reading.Utf8.{decode1, Point, point, no-point}
+use Rattle.spec.proofs.Agreement.Chars.{begins-ch}
+use Rattle.spec.proofs.Agreement.Reads.{Took, Reads, Next}
+use Rattle.spec.proofs.Agreement.Whole.{Whole}
+use Rattle.spec.proofs.Base.Results.{err-ok, ok-inj}
+use Rattle.spec.proofs.Base.Tests.{true→T, decide, leb-true, leb-false, eqb-yes, eqb-true, eqb-no, or-cases, and-left, and-right}
+use Rattle.spec.proofs.Characters.Bytes.{all-high, high-head, high-tail, high-encode, avoids, avoids-append, avoids-high, class-avoids, avoids-class, text-front, not-one}
+use Rattle.spec.proofs.Characters.Text.{text-rest, ascii-text, star-one}
+use Rattle.spec.proofs.Characters.Utf8.{encode-1, decode-read, Read}
+
+-- the bytes of a body, by the open quote or 0: no '>' outside quotes, and no quote left open
+unfoldable pub del : ℕ → List ℕ → Bool
+del zero [] = true
+del (suc q) [] = false
+del zero (b ∷ u) = not (one-of ">" b) && del (pick (one-of "\"'" b) b 0) u
+del (suc q) (b ∷ u) = del (pick (eqb b (suc q)) 0 (suc q)) u
+
+record Ended (q k : ℕ) (w : List ℕ) : Type 0 where
+  body : List ℕ
+  rest : List ℕ
+  split : w ≡ body ++ 62 ∷ rest
+  size : length body ≡ k
+  good : del q body ≡ true
+
+one-more : (q p k b : ℕ) (w : List ℕ) → ((u : List ℕ) → del q (b ∷ u) ≡ del p u) → ((j : ℕ) → take-decl-body p w ≡ ok j → Ended p j w) → past 1 (take-decl-body p w) ≡ ok k → Ended q k (b ∷ w)
+one-more q p k b w same ih e = go (take-decl-body p w) refl e
+  where
+    go : (a : Result) → take-decl-body p w ≡ a → past 1 a ≡ ok k → Ended q k (b ∷ w)
+    go (err m) f g = absurd (err-ok m k g)
+    go (ok j) f g =
+        let t : Ended p j w = ih j f in
+        let l : 1 + j ≡ k = ok-inj (1 + j) k g in
+        let m : length (t .body) ≡ j = t .size in
+        record { body = b ∷ t .body; rest = t .rest; split = ap (λ (x : List ℕ). b ∷ x) (t .split); size = omega arith; good = same (t .body) ∙ t .good }
+
+body-ended : (q k : ℕ) (w : List ℕ) → take-decl-body q w ≡ ok k → Ended q k w
+unfolding take-decl-body del
+body-ended q k [] e = absurd (err-ok unterminated k e)
+body-ended zero k (b ∷ w) e = go (one-of ">" b) refl e (λ p j. body-ended p j w)
+  where
+    go : (t : Bool) → one-of ">" b ≡ t → pick t (ok 0) (past 1 (take-decl-body (pick (one-of "\"'" b) b 0) w)) ≡ ok k → ((p j : ℕ) → take-decl-body p w ≡ ok j → Ended p j w) → Ended zero k (b ∷ w)
+    go true f g ih = record { body = []; rest = w; split = ap (λ (x : ℕ). x ∷ w) (is-gt (or-cases (eqb b 62) false f)); size = ok-inj 0 k g; good = refl }
+      where
+        is-gt : (eqb b 62 ≡ true) ⊎ (false ≡ true) → b ≡ 62
+        is-gt (Logic.inl x) = eqb-true b 62 x
+        is-gt (Logic.inr x) = absurd (true≢false (sym x))
+    go false f g ih = one-more zero (pick (one-of "\"'" b) b 0) k b w (λ u. ap (λ (t : Bool). not t && del (pick (one-of "\"'" b) b 0) u) f) (ih (pick (one-of "\"'" b) b 0)) g
+body-ended (suc q) k (b ∷ w) e = one-more (suc q) (pick (eqb b (suc q)) 0 (suc q)) k b w (λ u. refl) (λ j. body-ended (pick (eqb b (suc q)) 0 (suc q)) j w) e
+
+body-ends : (q : ℕ) (u v : List ℕ) → del q u ≡ true → take-decl-body q (u ++ 62 ∷ v) ≡ ok (length u)
+unfolding take-decl-body del
+body-ends zero [] v h = refl
+body-ends (suc q) [] v h = absurd (true≢false (sym h))
+body-ends zero (b ∷ u) v h = go (one-of ">" b) h (λ p. body-ends p u v)
+  where
+    go : (t : Bool) → (not t && del (pick (one-of "\"'" b) b 0) u) ≡ true → ((p : ℕ) → del p u ≡ true → take-decl-body p (u ++ 62 ∷ v) ≡ ok (length u))
+        → pick t (ok 0) (past 1 (take-decl-body (pick (one-of "\"'" b) b 0) (u ++ 62 ∷ v))) ≡ ok (suc (length u))
+    go true e ih = absurd (true≢false (sym e))
+    go false e ih = ap (past 1) (ih (pick (one-of "\"'" b) b 0) e) ∙ ap ok (one-add (length u))
+      where
+        one-add : (n : ℕ) → 1 + n ≡ suc n
+        one-add n = omega arith
+body-ends (suc q) (b ∷ u) v h = ap (past 1) (body-ends (pick (eqb b (suc q)) 0 (suc q)) u v h) ∙ ap ok one-add
+  where
+    one-add : 1 + length u ≡ suc (length u)
+    one-add = omega arith
+
+-- bytes above ASCII change nothing
+del-high : (q : ℕ) (x y : List ℕ) → q < 128 → T (all-high x) → del q (x ++ y) ≡ del q y
+unfolding del
+del-high q [] y l h = refl
+del-high zero (b ∷ x) y l h =
+    let g : 128 ≤ b = high-head b x h in
+    rw (eqb-no b 62 (λ e. omega arith), eqb-no b 34 (λ e. omega arith), eqb-no b 39 (λ e. omega arith)) (del-high zero x y l (high-tail b x h))
+del-high (suc q) (b ∷ x) y l h =
+    let g : 128 ≤ b = high-head b x h in
+    ap (λ (t : Bool). del (pick t 0 (suc q)) (x ++ y)) (eqb-no b (suc q) (λ e. omega arith)) ∙ del-high (suc q) x y l (high-tail b x h)
+
+-- a literal's inside leaves its quote open
+del-inside : (q : ℕ) (x y : List ℕ) → avoids (suc q) x ≡ true → del (suc q) (x ++ y) ≡ del (suc q) y
+unfolding del
+del-inside q [] y h = refl
+del-inside q (b ∷ x) y h = go (eqb b (suc q)) h (λ e. del-inside q x y e)
+  where
+    go : (t : Bool) → (not t && avoids (suc q) x) ≡ true → (avoids (suc q) x ≡ true → del (suc q) (x ++ y) ≡ del (suc q) y) → del (pick t 0 (suc q)) (x ++ y) ≡ del (suc q) y
+    go true e ih = absurd (true≢false (sym e))
+    go false e ih = ih e
+
+-- a delimited body has such bytes
+del-literal : (q : ℕ) (p : ℕ → Bool) (x y : List ℕ) → suc q < 128 → p (suc q) ≡ false → one-of ">" (suc q) ≡ false → one-of "\"'" (suc q) ≡ true
+    → Star (Ch p) x → del 0 (suc q ∷ (x ++ (suc q ∷ y))) ≡ del 0 y
+unfolding del
+del-literal q p x y l n gt qt s = rw (gt, qt, del-inside q x (suc q ∷ y) (class-avoids p (suc q) l n s), eqb-yes (suc q) (suc q) refl)
+
+three-no : (a b c : Bool) → T (not (a || (b || (c || false)))) → ((c || false) ≡ false) × ((a || (b || false)) ≡ false)
+three-no true b c t = absurd t
+three-no false true c t = absurd t
+three-no false false true t = absurd t
+three-no false false false t = (refl, refl)
+
+del-item : (x y : List ℕ) → (Ch (none-of "\"'>") ∣ SystemLiteral) x → del 0 (x ++ y) ≡ del 0 y
+unfolding SystemLiteral del
+del-item x y (inl c) = by-size (decide (ltb (c .char) 128))
+  where
+    small : del 0 ((c .char ∷ []) ++ y) ≡ del 0 y
+    small = let (e, f) = three-no (eqb (c .char) 34) (eqb (c .char) 39) (eqb (c .char) 62) (c .in-class) in rw (e, f)
+
+    by-size : (ltb (c .char) 128 ≡ true) ⊎ (ltb (c .char) 128 ≡ false) → del 0 (x ++ y) ≡ del 0 y
+    by-size (Logic.inl t) = ap (λ (z : List ℕ). del 0 (z ++ y)) (c .bytes ∙ encode-1 (c .char) (leb-true (suc (c .char)) 128 t)) ∙ small
+    by-size (Logic.inr t) =
+        let g : 128 < suc (c .char) = leb-false (suc (c .char)) 128 t in
+        ap (λ (z : List ℕ). del 0 (z ++ y)) (c .bytes) ∙ del-high 0 (encode (c .char)) y (omega arith) (high-encode (c .char) (omega arith))
+del-item x y (inr (inl l)) =
+    let d : List ℕ = l .second .left in
+    let e : x ++ y ≡ 34 ∷ (d ++ (34 ∷ y)) =
+    ap (λ (z : List ℕ). z ++ y) (l .split ∙ (λ i. l .first i ++ (l .second .split ∙ ap (λ (z : List ℕ). d ++ z) (l .second .second)) i)) ∙ ap (λ (z : List ℕ). 34 ∷ z) (append-assoc d (34 ∷ []) y) in
+    ap (del 0) e ∙ del-literal 33 (none-of "\"") d y (omega arith) refl refl refl (l .second .first)
+del-item x y (inr (inr l)) =
+    let d : List ℕ = l .second .left in
+    let e : x ++ y ≡ 39 ∷ (d ++ (39 ∷ y)) =
+    ap (λ (z : List ℕ). z ++ y) (l .split ∙ (λ i. l .first i ++ (l .second .split ∙ ap (λ (z : List ℕ). d ++ z) (l .second .second)) i)) ∙ ap (λ (z : List ℕ). 39 ∷ z) (append-assoc d (39 ∷ []) y) in
+    ap (del 0) e ∙ del-literal 38 (none-of "'") d y (omega arith) refl refl refl (l .second .first)
+
+pub delimited-del : {u : List ℕ} → Star (Ch (none-of "\"'>") ∣ SystemLiteral) u → del 0 u ≡ true
+unfolding del
+delimited-del (end e) = ap (del 0) e
+delimited-del (more x y e i s) = ap (del 0) e ∙ del-item x y i ∙ delimited-del s
+
+-- a text with such bytes is a delimited body; where a quote is open, up to that quote and then a delimited body
+record Open (a : ℕ) (u : List ℕ) : Type 0 where
+  inside : List ℕ
+  rest : List ℕ
+  split : u ≡ inside ++ a ∷ rest
+  text : Star (Ch any) inside
+  free : avoids a inside ≡ true
+  body : Star (Ch (none-of "\"'>") ∣ SystemLiteral) rest
+
+-- by the state: the body outside quotes, or inside one
+abbrev Delimits : ℕ → List ℕ → Type 0
+Delimits zero u = Star (Ch (none-of "\"'>") ∣ SystemLiteral) u
+Delimits (suc q) u = Open (suc q) u
+
+quote-of : (b : ℕ) → one-of "\"'" b ≡ true → (b ≡ 34) ⊎ (b ≡ 39)
+quote-of b e = go (or-cases (eqb b 34) (eqb b 39 || false) e)
+  where
+    og : (eqb b 39 ≡ true) ⊎ (false ≡ true) → (b ≡ 34) ⊎ (b ≡ 39)
+    og (Logic.inl x) = Logic.inr (eqb-true b 39 x)
+    og (Logic.inr x) = absurd (true≢false (sym x))
+
+    go : (eqb b 34 ≡ true) ⊎ ((eqb b 39 || false) ≡ true) → (b ≡ 34) ⊎ (b ≡ 39)
+    go (Logic.inl x) = Logic.inl (eqb-true b 34 x)
+    go (Logic.inr x) = og (or-cases (eqb b 39) false x)
+
+-- a quote, its inside and the quote again
+literal : (b : ℕ) (u : List ℕ) → (b ≡ 34) ⊎ (b ≡ 39) → Open b u → Star (Ch (none-of "\"'>") ∣ SystemLiteral) (b ∷ u)
+unfolding SystemLiteral
+literal b u (Logic.inl e) o =
+    more (b ∷ (o .inside ++ (34 ∷ []))) (o .rest) (ap (λ (z : List ℕ). b ∷ z) (o .split ∙ ap (λ (z : ℕ). o .inside ++ z ∷ o .rest) e ∙ sym (append-assoc (o .inside) (34 ∷ []) (o .rest))))
+    (inr (inl (record {
+      left = b ∷ [];
+      right = o .inside ++ (34 ∷ []);
+      split = refl;
+      first = ap (λ (z : ℕ). z ∷ []) e;
+      second = record { left = o .inside; right = 34 ∷ []; split = refl; first = avoids-class any (none-of "\"") 34 (omega arith) (λ c t. not-one 34 c) (o .text) (ap (λ (z : ℕ). avoids z (o .inside)) (sym e) ∙ o .free); second = refl };
+    })))
+    (o .body)
+literal b u (Logic.inr e) o =
+    more (b ∷ (o .inside ++ (39 ∷ []))) (o .rest) (ap (λ (z : List ℕ). b ∷ z) (o .split ∙ ap (λ (z : ℕ). o .inside ++ z ∷ o .rest) e ∙ sym (append-assoc (o .inside) (39 ∷ []) (o .rest))))
+    (inr (inr (record {
+      left = b ∷ [];
+      right = o .inside ++ (39 ∷ []);
+      split = refl;
+      first = ap (λ (z : ℕ). z ∷ []) e;
+      second = record { left = o .inside; right = 39 ∷ []; split = refl; first = avoids-class any (none-of "'") 39 (omega arith) (λ c t. not-one 39 c) (o .text) (ap (λ (z : ℕ). avoids z (o .inside)) (sym e) ∙ o .free); second = refl };
+    })))
+    (o .body)
+
+plain-char : (c : ℕ) → one-of ">" c ≡ false → one-of "\"'" c ≡ false → T (none-of "\"'>" c)
+plain-char c e f = go (eqb c 34) (eqb c 39) (eqb c 62) e f
+  where
+    go : (a b d : Bool) → (d || false) ≡ false → (a || (b || false)) ≡ false → T (not (a || (b || (d || false))))
+    go true b d e f = absurd (true≢false f)
+    go false true d e f = absurd (true≢false f)
+    go false false true e f = absurd (true≢false e)
+    go false false false e f = tt
+
+del-delimits : (q : ℕ) {u : List ℕ} → q < 128 → Star (Ch any) u → del q u ≡ true → Delimits q u
+unfolding del
+del-delimits zero l (end e) h = end e
+del-delimits (suc q) l (end e) h = absurd (true≢false (sym (sym (ap (del (suc q)) e) ∙ h)))
+del-delimits q {u} l (more x y e c s) h = by-size (decide (ltb (c .char) 128)) (λ p k g. del-delimits p k s g)
+  where
+    b : ℕ
+    b = c .char
+
+    outside-high : 128 ≤ b → del 0 u ≡ true → ((p : ℕ) → p < 128 → del p y ≡ true → Delimits p y) → Delimits 0 u
+    outside-high g k ih =
+        more x y e (inl (record { char = b; is-scalar = c .is-scalar; in-class = plain-char b (rw (eqb-no b 62 (λ z. omega arith))) (rw (eqb-no b 34 (λ z. omega arith), eqb-no b 39 (λ z. omega arith))); bytes = c .bytes }))
+        (ih 0 (omega arith) (sym (del-high 0 x y (omega arith) (rw (c .bytes) (high-encode b g))) ∙ ap (del 0) (sym e) ∙ k))
+
+    inside-on : (p : ℕ) → suc p < 128 → avoids (suc p) x ≡ true → Open (suc p) y → Open (suc p) u
+    inside-on p k a o = record {
+      inside = x ++ o .inside;
+      rest = o .rest;
+      split = e ∙ ap (λ (z : List ℕ). x ++ z) (o .split) ∙ sym (append-assoc x (o .inside) (suc p ∷ o .rest));
+      text = more x (o .inside) refl c (o .text);
+      free = avoids-append (suc p) x (o .inside) ∙ (λ i. a i && o .free i);
+      body = o .body;
+    }
+
+    by-state : 128 ≤ b → (p : ℕ) → p < 128 → del p u ≡ true → ((p : ℕ) → p < 128 → del p y ≡ true → Delimits p y) → Delimits p u
+    by-state g zero k d ih = outside-high g d ih
+    by-state g (suc p) k d ih =
+        inside-on p k (ap (avoids (suc p)) (c .bytes) ∙ avoids-high (suc p) (encode b) k (high-encode b g))
+        (ih (suc p) k (sym (del-high (suc p) x y k (rw (c .bytes) (high-encode b g))) ∙ ap (del (suc p)) (sym e) ∙ d))
+
+    u-is : ltb b 128 ≡ true → u ≡ b ∷ y
+    u-is t = e ∙ ap (λ (z : List ℕ). z ++ y) (c .bytes ∙ encode-1 b (leb-true (suc b) 128 t))
+
+    small : ltb b 128 ≡ true → (p : ℕ) → p < 128 → del p (b ∷ y) ≡ true → ((p : ℕ) → p < 128 → del p y ≡ true → Delimits p y) → Delimits p u
+    small t zero k d ih = by-gt (one-of ">" b) refl d
+      where
+        by-quote : one-of ">" b ≡ false → (v : Bool) → one-of "\"'" b ≡ v → del (pick v b 0) y ≡ true → Delimits 0 u
+        by-quote n true f g = subst (Star (Ch (none-of "\"'>") ∣ SystemLiteral)) (sym (u-is t)) (literal b y (quote-of b f) (opened b (quote-of b f) g))
+          where
+            opened : (a : ℕ) → (a ≡ 34) ⊎ (a ≡ 39) → del a y ≡ true → Open a y
+            opened a (Logic.inl z) g = subst (λ (m : ℕ). Open m y) (sym z) (ih 34 (omega arith) (ap (λ (m : ℕ). del m y) (sym z) ∙ g))
+            opened a (Logic.inr z) g = subst (λ (m : ℕ). Open m y) (sym z) (ih 39 (omega arith) (ap (λ (m : ℕ). del m y) (sym z) ∙ g))
+        by-quote n false f g = more x y e (inl (record { char = b; is-scalar = c .is-scalar; in-class = plain-char b n f; bytes = c .bytes })) (ih 0 (omega arith) g)
+
+        by-gt : (v : Bool) → one-of ">" b ≡ v → (not v && del (pick (one-of "\"'" b) b 0) y) ≡ true → Delimits 0 u
+        by-gt true f g = absurd (true≢false (sym g))
+        by-gt false f g = by-quote f (one-of "\"'" b) refl g
+    small t (suc p) k d ih = by-eq (eqb b (suc p)) refl d
+      where
+        by-eq : (v : Bool) → eqb b (suc p) ≡ v → del (pick v 0 (suc p)) y ≡ true → Open (suc p) u
+        by-eq true f g = record { inside = []; rest = y; split = u-is t ∙ ap (λ (z : ℕ). z ∷ y) (eqb-true b (suc p) f); text = end refl; free = refl; body = ih 0 (omega arith) g }
+        by-eq false f g = inside-on p k (ap (avoids (suc p)) (c .bytes ∙ encode-1 b (leb-true (suc b) 128 t)) ∙ rw f) (ih (suc p) k g)
+
+    by-size : (ltb b 128 ≡ true) ⊎ (ltb b 128 ≡ false) → ((p : ℕ) → p < 128 → del p y ≡ true → Delimits p y) → Delimits q u
+    by-size (Logic.inl t) ih = small t q l (ap (del q) (sym (u-is t)) ∙ h) ih
+    by-size (Logic.inr t) ih = let g : 128 < suc b = leb-false (suc b) 128 t in by-state (omega arith) q l h ih
+
+module _ (D : Dialect) where
+  -- a parameter-entity reference somewhere in a body
+  abbrev pub Refers : Lang
+  Refers = Text · lit "%" · Ch (D .start) · Text
+
+  pe-found : (u : List ℕ) → has-pe-reference D u ≡ true → (x y : List ℕ) × (u ≡ x ++ 37 ∷ y) × (begins (D .start) y ≡ true)
+  unfolding has-pe-reference
+  pe-found [] e = absurd (true≢false (sym e))
+  pe-found (b ∷ u) e = go (or-cases (one-of "%" b && begins (D .start) u) (has-pe-reference D u) e) (pe-found u)
+    where
+      percent : (eqb b 37 || false) ≡ true → b ≡ 37
+      percent f = og (or-cases (eqb b 37) false f)
+        where
+          og : (eqb b 37 ≡ true) ⊎ (false ≡ true) → b ≡ 37
+          og (Logic.inl x) = eqb-true b 37 x
+          og (Logic.inr x) = absurd (true≢false (sym x))
+
+      go : ((one-of "%" b && begins (D .start) u) ≡ true) ⊎ (has-pe-reference D u ≡ true) → (has-pe-reference D u ≡ true → (x y : List ℕ) × (u ≡ x ++ 37 ∷ y) × (begins (D .start) y ≡ true))
+          → (x y : List ℕ) × (b ∷ u ≡ x ++ 37 ∷ y) × (begins (D .start) y ≡ true)
+      go (Logic.inl f) ih = ([], u, ap (λ (z : ℕ). z ∷ u) (percent (and-left (one-of "%" b) (begins (D .start) u) f)), and-right (one-of "%" b) (begins (D .start) u) f)
+      go (Logic.inr f) ih = let (x, y, g, h) = ih f in (b ∷ x, y, ap (λ (z : List ℕ). b ∷ z) g, h)
+
+  pe-at : (x y : List ℕ) → begins (D .start) y ≡ true → has-pe-reference D (x ++ 37 ∷ y) ≡ true
+  unfolding has-pe-reference
+  pe-at [] y h = rw h
+  pe-at (b ∷ x) y h = go (one-of "%" b && begins (D .start) (x ++ 37 ∷ y)) (pe-at x y h)
+    where
+      go : (t : Bool) → has-pe-reference D (x ++ 37 ∷ y) ≡ true → (t || has-pe-reference D (x ++ 37 ∷ y)) ≡ true
+      go true e = refl
+      go false e = e
+
+  begun : (y : List ℕ) → begins (D .start) y ≡ true → Star (Ch any) y → (Ch (D .start) · Text) y
+  unfolding begins Text
+  begun y e s = go (decode1 y) refl e
+    where
+      go : (p : Point) → decode1 y ≡ p → of-point p (λ c k. D .start c) false ≡ true → (Ch (D .start) · Star (Ch any)) y
+      go no-point f g = absurd (true≢false (sym g))
+      go (point c k) f g =
+          let r : Read c k y = decode-read c k y f in
+          record {
+            left = encode c;
+            right = r .rest;
+            split = r .split;
+            first = record { char = c; is-scalar = true→T (scalar c) (r .is-scalar); in-class = true→T (D .start c) g; bytes = refl };
+            second = text-rest (r .rest) (star-one (record { char = c; is-scalar = true→T (scalar c) (r .is-scalar); in-class = tt; bytes = refl })) (subst (Star (Ch any)) (r .split) s);
+          }
+
+  refers-sound : (u : List ℕ) → Text u → has-pe-reference D u ≡ true → Refers u
+  unfolding Text
+  refers-sound u tu e =
+      let (x, y, f, g) = pe-found u e in
+      let tx : Star (Ch any) x = text-front x 37 y (omega arith) f tu in
+      let ty : Star (Ch any) y = text-rest y (ascii-text (ascii "%") tt) (text-rest (37 ∷ y) tx (subst (Star (Ch any)) f tu)) in
+      record { left = x; right = 37 ∷ y; split = f; first = tx; second = record { left = ascii "%"; right = y; split = refl; first = refl; second = begun y g ty } }
+
+  pub refers-complete : (u : List ℕ) → Refers u → has-pe-reference D u ≡ true
+  refers-complete u r =
+      let c : (Ch (D .start) · Text) (r .second .right) = r .second .second in
+      let e : u ≡ r .left ++ 37 ∷ (c .left ++ c .right) =
+      r .split ∙ ap (λ (z : List ℕ). r .left ++ z) (r .second .split ∙ (λ i. r .second .first i ++ c .split i)) in
+      ap (has-pe-reference D) e ∙ pe-at (r .left) (c .left ++ c .right) (begins-ch (D .start) (c .left) (c .right) (c .first))
+
+  -- finish_decl
+  pub finish-reads : (pe : Bool) {body : Reader} {B : Lang} → Whole body B → ((u : List ℕ) → B u → Delimited u) → Reads (finish-decl D pe body) (declared D pe B · lit ">") (Next any) any
+  unfolding finish-decl Text Delimited Unread nothing
+  finish-reads pe {body} {B} a inner = record { sound = sound-by; complete = complete-by; leads = λ u v l t. tt }
+    where
+      read-as : (pe : Bool) (u : List ℕ) (j : ℕ) → Star (Ch any) u → del 0 u ≡ true → (t : Bool) → has-pe-reference D u ≡ t → pick (pe || t) nothing body u ≡ ok j → declared D pe B u
+      read-as true u j tu d t f e = del-delimits 0 (omega arith) tu d
+      read-as false u j tu d true f e = inr (del-delimits 0 (omega arith) tu d, refers-sound u tu f)
+      read-as false u j tu d false f e = inl (a .sound u j tu e)
+
+      by-body : (w : List ℕ) (k i : ℕ) → Star (Ch any) w → (o : Ended 0 i w) → (x : Result) → pick (pe || has-pe-reference D (o .body)) nothing body (o .body) ≡ x → on-ok x (λ _. ok (i + 1)) ≡ ok k → Took (declared D pe B · lit ">") k w
+      by-body w k i tw o (err m) f e = absurd (err-ok m k e)
+      by-body w k i tw o (ok j) f e =
+          let u : List ℕ = o .body in
+          let tu : Star (Ch any) u = text-front u 62 (o .rest) (omega arith) (o .split) tw in
+          record {
+            taken = u ++ (62 ∷ []);
+            rest = o .rest;
+            split = o .split ∙ sym (append-assoc u (62 ∷ []) (o .rest));
+            size = length-append u (62 ∷ []) ∙ ap (λ (m : ℕ). m + 1) (o .size) ∙ ok-inj (i + 1) k e;
+            holds = record { left = u; right = 62 ∷ []; split = refl; first = read-as pe u j tu (o .good) (has-pe-reference D u) refl f; second = refl };
+            left = text-rest (o .rest) (ascii-text (ascii ">") tt) (text-rest (62 ∷ o .rest) tu (subst (Star (Ch any)) (o .split) tw));
+          }
+
+      by-end : (w : List ℕ) (k : ℕ) → Star (Ch any) w → (x : Result) → take-decl-body 0 w ≡ x
+          → on-ok x (λ i. on-ok (pick (pe || has-pe-reference D (take i w)) nothing body (take i w)) (λ _. ok (i + 1))) ≡ ok k → Took (declared D pe B · lit ">") k w
+      by-end w k tw (err m) f e = absurd (err-ok m k e)
+      by-end w k tw (ok i) f e =
+          let o : Ended 0 i w = body-ended 0 i w f in
+          let z : take i w ≡ o .body = ap (take i) (o .split) ∙ take-at (o .body) (62 ∷ o .rest) i (o .size) in
+          by-body w k i tw o (pick (pe || has-pe-reference D (o .body)) nothing body (o .body)) refl
+          (subst (λ (q : List ℕ). on-ok (pick (pe || has-pe-reference D q) nothing body q) (λ _. ok (i + 1)) ≡ ok k) z e)
+
+      sound-by : (w : List ℕ) (k : ℕ) → Text w → finish-decl D pe body w ≡ ok k → Took (declared D pe B · lit ">") k w
+      sound-by w k tw e = by-end w k tw (take-decl-body 0 w) refl e
+
+      delimited : (pe : Bool) (u : List ℕ) → declared D pe B u → del 0 u ≡ true
+      delimited true u d = delimited-del d
+      delimited false u (inl b) = delimited-del (inner u b)
+      delimited false u (inr n) = delimited-del (n .0)
+
+      passes : (pe : Bool) (u : List ℕ) → declared D pe B u → (j : ℕ) × (pick (pe || has-pe-reference D u) nothing body u ≡ ok j)
+      passes true u d = (0, refl)
+      passes false u (inl b) = go (has-pe-reference D u)
+        where
+          go : (t : Bool) → (j : ℕ) × (pick t nothing body u ≡ ok j)
+          go true = (0, refl)
+          go false = (length u, a .complete u b)
+      passes false u (inr n) = (0, rw (refers-complete u (n .1)))
+
+      complete-by : (u v : List ℕ) → (declared D pe B · lit ">") u → Next any v → finish-decl D pe body (u ++ v) ≡ ok (length u)
+      complete-by u v l t =
+          let x : List ℕ = l .left in
+          let e : u ++ v ≡ x ++ (62 ∷ v) = ap (λ (z : List ℕ). z ++ v) (l .split ∙ ap (λ (z : List ℕ). x ++ z) (l .second)) ∙ append-assoc x (62 ∷ []) v in
+          let (j, p) = passes pe x (l .first) in
+          let len : length u ≡ length x + 1 = ap length (l .split) ∙ length-append x (l .right) ∙ ap (λ (q : List ℕ). length x + length q) (l .second) in
+          rw (e, body-ends 0 x v (delimited pe x (l .first)), take-append-seam x (62 ∷ v), p, len)

@@ -1,0 +1,239 @@
+-- The whole DOCTYPE, over any reader of its declarations. Assumes nothing.
+use mathlib.Core.Logic
+use mathlib.Core.Bool.{Bool, true, false, _||_, true≢false}
+use mathlib.Core.List.{List, [], _∷_, _++_, append-assoc, append-nil}
+use mathlib.Core.Logic.{_⊎_}
+use mathlib.Core.Path.{_≡_, refl, sym, _∙_, ap, subst}
+use Prim.Native.Nat.{ℕ, suc, _+_}
+use native.Mathlib.Omega.{arith}
+use lib.Dec.{T, ltb, eqb}
+use lib.ListN.{length, drop}
+use lib.Seq.{drop-drop}
+use Rattle.spec.specs.Basics.{pick}
+use Rattle.spec.specs.Grammar.Characters.{Text, S, S?, space}
+use Rattle.spec.specs.Grammar.Languages.{Lang, lit, ascii, _·_, _∣_, inl, inr, end, more, Opt, any, one-of}
+use Rattle.spec.specs.Grammar.Literals.{ExternalID}
+use Rattle.spec.specs.Grammar.Names.{Dialect, Name}
+use Rattle.spec.specs.Reading.Dtd.{skip-s, parse-external-id, parse-markup-decl, parse-internal-subset, check-doctype}
+use Rattle.spec.specs.Reading.Readers.{Result, ok, err, Reader, on-ok, _>>_, nothing, at-end, starts, choose, on, word, while-fuel, while, begins, char, past}
+use Rattle.spec.specs.Reading.Refusals.{bad-name, unexpected, trailing}
+use Rattle.spec.specs.Reading.Utf8.{decode1}
+use Rattle.spec.specs.Reading.Wellformed.{parts, name}
+use Rattle.spec.proofs.Agreement.Algebra.{ε, same, _then_, cat₂, either, assoc, none-after}
+use Rattle.spec.proofs.Agreement.Choices.{on-word, empty-reads}
+use Rattle.spec.proofs.Agreement.Reads.{Took, Leads, Reads, Next, sound-seq, complete-seq, seq, alt, _≅_, weaken, drop-took, sound-after}
+use Rattle.spec.proofs.Agreement.Runs.{not-space, skip, need}
+use Rattle.spec.proofs.Agreement.Signs.{kind, Class, sub-at, by-signs, sub-any, sub-refl, _∪_}
+use Rattle.spec.proofs.Agreement.Whole.{stop, at-end-reads, Ends, ends-seq, ends-at-end, Whole, whole}
+use Rattle.spec.proofs.Agreement.Words.{wd, first-of, starts-clash, starts-lit}
+use Rattle.spec.proofs.Base.Loops.{while-exit}
+use Rattle.spec.proofs.Base.Results.{err-ok, ok-inj}
+use Rattle.spec.proofs.Base.Somes.{some-char}
+use Rattle.spec.proofs.Base.Tests.{T→true, leb-true, eqb-true, or-cases}
+use Rattle.spec.proofs.Characters.Utf8.{decode-1}
+use Rattle.spec.proofs.Dtd.Literals.{external-id-reads}
+use Rattle.spec.proofs.Dtd.Subset.{Written, subset-reads}
+use Rattle.spec.proofs.Wellformed.Names.{AsciiNames, ends-name, start-first, name-reads}
+
+module _ (D : Dialect) (A : AsciiNames D) where
+  -- a name ends where no name character stands
+  munch : (w : List ℕ) (k : ℕ) → name D w ≡ ok k → begins (D .part) (drop k w) ≡ false
+  unfolding name parts _>>_ while begins decode1
+  munch w k e = by-first (char (D .start) bad-name w) e
+    where
+      by-rest : (j : ℕ) (a : Result) → while-fuel (length (drop j w)) (begins (D .part)) (char (D .part) bad-name) (drop j w) ≡ a → past j a ≡ ok k → begins (D .part) (drop k w) ≡ false
+      by-rest j (err m) f g = absurd (err-ok m k g)
+      by-rest j (ok m) f g =
+          ap (λ (q : ℕ). begins (D .part) (drop q w)) (sym (ok-inj (j + m) k g)) ∙ ap (begins (D .part)) (sym (drop-drop m j w))
+          ∙ while-exit (begins (D .part)) (char (D .part) bad-name) refl (some-char (D .part) bad-name) (length (drop j w)) (drop j w) m (omega arith) f
+
+      by-first : (a : Result) → on-ok a (λ j. past j (parts D (drop j w))) ≡ ok k → begins (D .part) (drop k w) ≡ false
+      by-first (err m) g = absurd (err-ok m k g)
+      by-first (ok j) g = by-rest j (while-fuel (length (drop j w)) (begins (D .part)) (char (D .part) bad-name) (drop j w)) refl g
+
+module _ (D : Dialect) (A : AsciiNames D) (M : Bool → Lang) (reads-markup : (pe : Bool) → Reads (parse-markup-decl D pe) (M pe) (Next any) (first-of "<")) where
+  -- what stands after the name, as it is read and as it is written
+  abbrev In-brackets : Lang
+  In-brackets = lit "[" · (Written D A M reads-markup · lit "]") · S?
+
+  abbrev Raw : Lang
+  Raw = S? · ((ExternalID · S?) ∣ ε) · (In-brackets ∣ ε) · ε
+
+  abbrev pub Tail : Lang
+  Tail = Opt (S · ExternalID) · S? · Opt (lit "[" · Written D A M reads-markup · lit "]" · S?)
+
+  external-ahead : List ℕ → Bool
+  external-ahead w = starts (ascii "SYSTEM") w || starts (ascii "PUBLIC") w
+
+  abbrev tail-reader : Reader
+  tail-reader = skip-s >> choose (λ w. starts (ascii "SYSTEM") w || starts (ascii "PUBLIC") w) (parse-external-id >> skip-s) nothing >> on "[" (word "[" unexpected >> parse-internal-subset D >> skip-s) nothing >> at-end trailing
+
+  abbrev before-end : Class
+  before-end k = one-of "[" k || eqb k 129
+
+  abbrev tail-first : Class
+  tail-first k = space k || one-of "SP[" k || eqb k 129
+
+  raw-reads : Reads tail-reader Raw (Next stop) tail-first
+  unfolding ExternalID
+  raw-reads =
+      weaken sub-refl (by-signs tt)
+      (seq (skip (one-of "SP" ∪ before-end) (by-signs tt)) sub-refl
+      (seq (alt (λ w. starts (ascii "SYSTEM") w || starts (ascii "PUBLIC") w) ahead (λ u v e t. none u v e (t .it)) (seq external-id-reads sub-any (skip before-end (by-signs tt))) (empty-reads before-end)) (by-signs tt)
+      (seq (on-word "[" tt (seq (wd "[" unexpected tt) sub-any (seq (subset-reads D A M reads-markup) sub-any (skip stop (by-signs tt)))) (empty-reads stop)) sub-refl (at-end-reads trailing))))
+    where
+      or-true : (a b : Bool) → b ≡ true → (a || b) ≡ true
+      or-true true b e = refl
+      or-true false b e = e
+
+      ahead : (u v : List ℕ) → (ExternalID · S?) u → Next before-end v → (starts (ascii "SYSTEM") (u ++ v) || starts (ascii "PUBLIC") (u ++ v)) ≡ true
+      ahead u v l t = subst (λ (q : List ℕ). (starts (ascii "SYSTEM") q || starts (ascii "PUBLIC") q) ≡ true) (sym (ap (λ (q : List ℕ). q ++ v) (l .split) ∙ append-assoc (l .left) (l .right) v)) (go (l .first))
+        where
+          go : ExternalID (l .left) → (starts (ascii "SYSTEM") (l .left ++ (l .right ++ v)) || starts (ascii "PUBLIC") (l .left ++ (l .right ++ v))) ≡ true
+          go (inl x) = ap (λ (b : Bool). b || starts (ascii "PUBLIC") (l .left ++ (l .right ++ v))) (starts-lit "SYSTEM" (l .right ++ v) x)
+          go (inr x) = or-true (starts (ascii "SYSTEM") (l .left ++ (l .right ++ v))) (starts (ascii "PUBLIC") (l .left ++ (l .right ++ v))) (starts-lit "PUBLIC" (l .right ++ v) x)
+
+      none : (u v : List ℕ) → ε u → T (before-end (kind v)) → (starts (ascii "SYSTEM") (u ++ v) || starts (ascii "PUBLIC") (u ++ v)) ≡ false
+      none u v e t =
+          ap (λ (x : List ℕ). starts (ascii "SYSTEM") (x ++ v) || starts (ascii "PUBLIC") (x ++ v)) e
+          ∙ (λ i. starts-clash (ascii "SYSTEM") [] before-end v tt t i || starts-clash (ascii "PUBLIC") [] before-end v tt t i)
+
+  -- where no name character stands first, white space stands before the external identifier
+  named : (w : List ℕ) → T (one-of "SP" (kind w)) → begins (D .part) w ≡ true
+  unfolding begins kind decode1
+  named [] t = absurd t
+  named (b ∷ w) t = go (ltb b 128) refl t
+    where
+      is-part : (or : (b ≡ 83) ⊎ (b ≡ 80)) → D .part b ≡ true
+      is-part (Logic.inl e) = ap (D .part) e ∙ A .part-ascii 83 (omega arith)
+      is-part (Logic.inr e) = ap (D .part) e ∙ A .part-ascii 80 (omega arith)
+
+      which : T (one-of "SP" b) → (b ≡ 83) ⊎ (b ≡ 80)
+      which t = og (or-cases (eqb b 83) (eqb b 80 || false) (T→true (one-of "SP" b) t))
+        where
+          gg : (eqb b 80 ≡ true) ⊎ (false ≡ true) → (b ≡ 83) ⊎ (b ≡ 80)
+          gg (Logic.inl x) = Logic.inr (eqb-true b 80 x)
+          gg (Logic.inr x) = absurd (true≢false (sym x))
+
+          og : (eqb b 83 ≡ true) ⊎ ((eqb b 80 || false) ≡ true) → (b ≡ 83) ⊎ (b ≡ 80)
+          og (Logic.inl x) = Logic.inl (eqb-true b 83 x)
+          og (Logic.inr x) = gg (or-cases (eqb b 80) false x)
+
+      go : (x : Bool) → ltb b 128 ≡ x → T (one-of "SP" (pick x b 128)) → begins (D .part) (b ∷ w) ≡ true
+      go true e h = rw (decode-1 b w (leb-true (suc b) 128 e)) (is-part (which h))
+      go false e h = absurd h
+
+  bracket : ((In-brackets ∣ ε) · ε) ≅ Opt (lit "[" · Written D A M reads-markup · lit "]" · S?)
+  bracket = none-after then either (cat₂ assoc) same
+
+  tail-of : (w : List ℕ) → begins (D .part) w ≡ false → Raw w → Tail w
+  unfolding S S?
+  tail-of w n c = go (c .left) (c .first) (c .split) (c .second .left) (c .second .first) (c .second .split)
+    where
+      z : Opt (lit "[" · Written D A M reads-markup · lit "]" · S?) (c .second .right)
+      z = bracket .to (c .second .right) (c .second .second)
+
+      go : (x : List ℕ) → S? x → w ≡ x ++ c .right → (y : List ℕ) → ((ExternalID · S?) ∣ ε) y → c .right ≡ y ++ c .second .right → Tail w
+      go x s e y (inr o) f = record {
+        left = [];
+        right = w;
+        split = refl;
+        first = inr refl;
+        second = record { left = x; right = c .second .right; split = e ∙ ap (λ (q : List ℕ). x ++ q) (f ∙ ap (λ (q : List ℕ). q ++ c .second .right) o); first = s; second = z };
+      }
+      go x (end g) e y (inl l) f =
+          absurd (true≢false (sym (named w (subst (λ (q : List ℕ). T (one-of "SP" (kind q)))
+          (sym (e ∙ (λ i. g i ++ f i) ∙ ap (λ (q : List ℕ). q ++ c .second .right) (l .split) ∙ append-assoc (l .left) (l .right) (c .second .right)))
+          (external-id-reads .leads (l .left) (l .right ++ c .second .right) (l .first) (record { it = tt })))) ∙ n))
+      go x (more a b g h s) e y (inl l) f = record {
+        left = x ++ l .left;
+        right = l .right ++ c .second .right;
+        split = e ∙ ap (λ (q : List ℕ). x ++ q) (f ∙ ap (λ (q : List ℕ). q ++ c .second .right) (l .split) ∙ append-assoc (l .left) (l .right) (c .second .right)) ∙ sym (append-assoc x (l .left) (l .right ++ c .second .right));
+        first = inl (record { left = x; right = l .left; split = refl; first = record { left = a; right = b; split = g; first = h; second = s }; second = l .first });
+        second = record { left = l .right; right = c .second .right; split = refl; first = l .second; second = z };
+      }
+
+  raw-of : (w : List ℕ) → Tail w → Raw w
+  unfolding S S?
+  raw-of w c = go (c .left) (c .first) (c .split)
+    where
+      z : ((In-brackets ∣ ε) · ε) (c .second .right)
+      z = bracket .from (c .second .right) (c .second .second)
+
+      go : (x : List ℕ) → Opt (S · ExternalID) x → w ≡ x ++ c .right → Raw w
+      go x (inr o) e = record {
+        left = c .second .left;
+        right = c .second .right;
+        split = e ∙ (λ i. o i ++ c .second .split i);
+        first = c .second .first;
+        second = record { left = []; right = c .second .right; split = refl; first = inr refl; second = z };
+      }
+      go x (inl l) e =
+          let s : List ℕ = l .left in
+          let y : List ℕ = l .right in
+          record {
+            left = s;
+            right = (y ++ c .second .left) ++ c .second .right;
+            split = e ∙ (λ i. l .split i ++ c .second .split i) ∙ append-assoc s y (c .second .left ++ c .second .right) ∙ ap (λ (q : List ℕ). s ++ q) (sym (append-assoc y (c .second .left) (c .second .right)));
+            first = more (l .first .left) (l .first .right) (l .first .split) (l .first .first) (l .first .second);
+            second = record {
+              left = y ++ c .second .left;
+              right = c .second .right;
+              split = refl;
+              first = inl (record { left = y; right = c .second .left; split = refl; first = l .second; second = c .second .first });
+              second = z;
+            };
+          }
+
+  -- what may follow a name
+  abbrev tail-after : Class
+  tail-after k = space k || before-end k
+
+  tail-leads : Leads Tail (Next stop) tail-after
+  tail-leads u v c t = go (c .left) (c .first) (c .split)
+    where
+      z : (x : List ℕ) → Opt (lit "[" · Written D A M reads-markup · lit "]" · S?) x → T (before-end (kind (x ++ v)))
+      z x (inl l) = sub-at (first-of "[") before-end (by-signs tt) (x ++ v)
+          (subst (λ (q : List ℕ). T (first-of "[" (kind q))) (sym (ap (λ (q : List ℕ). q ++ v) (l .split) ∙ append-assoc (l .left) (l .right) v)) (wd "[" unexpected tt .leads (l .left) (l .right ++ v) (l .first) (record { it = tt })))
+      z x (inr o) = sub-at stop before-end (by-signs tt) (x ++ v) (subst (λ (q : List ℕ). T (stop (kind (q ++ v)))) (sym o) (t .it))
+
+      go : (x : List ℕ) → Opt (S · ExternalID) x → u ≡ x ++ c .right → T (tail-after (kind (u ++ v)))
+      go x (inl l) e =
+          sub-at space tail-after (by-signs tt) (u ++ v)
+          (subst (λ (q : List ℕ). T (space (kind q))) (sym (ap (λ (q : List ℕ). q ++ v) (e ∙ ap (λ (q : List ℕ). q ++ c .right) (l .split) ∙ append-assoc (l .left) (l .right) (c .right)) ∙ append-assoc (l .left) (l .right ++ c .right) v))
+          (need (one-of "SP") (by-signs tt) .leads (l .left) ((l .right ++ c .right) ++ v) (l .first)
+          (record { it = subst (λ (q : List ℕ). T (one-of "SP" (kind q))) (sym (append-assoc (l .right) (c .right) v)) (external-id-reads .leads (l .right) (c .right ++ v) (l .second) (record { it = tt })) })))
+      go x (inr o) e =
+          subst (λ (q : List ℕ). T (tail-after (kind q))) (sym (ap (λ (q : List ℕ). q ++ v) (e ∙ (λ i. o i ++ c .second .split i)) ∙ append-assoc (c .second .left) (c .second .right) v))
+          (skip before-end (by-signs tt) .leads (c .second .left) (c .second .right ++ v) (c .second .first) (record { it = z (c .second .right) (c .second .second) }))
+
+  tail-ends : Ends tail-reader
+  tail-ends = ends-seq _ _ (ends-seq _ _ (ends-seq _ _ (ends-at-end trailing)))
+
+  tail-sound : (w : List ℕ) (k : ℕ) → begins (D .part) w ≡ false → Text w → tail-reader w ≡ ok k → Took Tail k w
+  tail-sound w k n tw e =
+      let t : Took Raw k w = raw-reads .sound w k tw e in
+      let x : w ≡ t .taken = t .split ∙ ap (λ (q : List ℕ). t .taken ++ q) (sym (drop-took t) ∙ tail-ends w k e) ∙ append-nil (t .taken) in
+      record { taken = t .taken; rest = t .rest; split = t .split; size = t .size; holds = tail-of (t .taken) (ap (begins (D .part)) (sym x) ∙ n) (t .holds); left = t .left }
+
+  pub doctype-reads : Reads (check-doctype D) (S? · Name D · Tail) (Next stop) any
+  unfolding check-doctype
+  doctype-reads = record {
+    sound = sound-seq skip-s _ S? (Name D · Tail) (skip not-space sub-refl .sound)
+        (sound-after (λ w. begins (D .part) w ≡ false) (name D) tail-reader (Name D) Tail (name-reads D A .sound) (munch D A) tail-sound);
+    complete = complete-seq skip-s _ S? (Name D · Tail) (Next start-first) (Next stop) (skip start-first (by-signs tt) .complete)
+        (complete-seq (name D) tail-reader (Name D) Tail (Next ends-name) (Next stop) (name-reads D A .complete) (λ u v c t. raw-reads .complete u v (raw-of u c) t) meet)
+        (λ u v c t. record { it = subst (λ (q : List ℕ). T (start-first (kind q))) (sym (ap (λ (q : List ℕ). q ++ v) (c .split) ∙ append-assoc (c .left) (c .right) v)) (name-reads D A .leads (c .left) (c .right ++ v) (c .first) (meet (c .right) v (c .second) t)) });
+    leads = λ u v c t. tt;
+  }
+    where
+      meet : (u v : List ℕ) → Tail u → Next stop v → Next ends-name (u ++ v)
+      meet u v c t = record { it = sub-at tail-after ends-name (by-signs tt) (u ++ v) (tail-leads u v c t) }
+
+  doctype-ends : Ends (check-doctype D)
+  unfolding check-doctype
+  doctype-ends = ends-seq _ _ (ends-seq _ _ tail-ends)
+
+  -- on UTF-8 the reader accepts exactly the texts that the grammar derives
+  pub agrees : Whole (check-doctype D) (S? · Name D · Tail)
+  agrees = whole doctype-reads doctype-ends

@@ -1,0 +1,150 @@
+-- Literals in quotes, and external identifiers. Assumes nothing.
+use mathlib.Core.Logic
+use mathlib.Core.Bool.{Bool, true, false, _&&_, _||_, not, true≢false}
+use mathlib.Core.List.{List, [], _∷_, _++_, append-nil}
+use mathlib.Core.Logic.{_⊎_}
+use mathlib.Core.Path.{_≡_, refl, sym, _∙_, ap, subst}
+use Prim.Native.Nat.{ℕ, suc, _+_, _<_}
+use Prim.Native.String.{String}
+use native.Mathlib.Omega.{arith}
+use lib.Dec.{T, ltb, eqb, eqb→eq}
+use lib.ListN.{length, length-append}
+use Rattle.spec.specs.Basics.{pick, within}
+use Rattle.spec.specs.Grammar.Characters.{Text}
+use Rattle.spec.specs.Grammar.Languages.{Lang, lit, ascii, Ch, _·_, inl, inr, Star, any, one-of, none-of}
+use Rattle.spec.specs.Grammar.Literals.{Quoted, SystemLiteral, PubidLiteral, ExternalID, pubid-char}
+use Rattle.spec.specs.Grammar.References.{digit}
+use Rattle.spec.specs.Reading.Dtd.{parse-quoted, check-pubid, parse-external-id}
+use Rattle.spec.specs.Reading.Readers.{Result, ok, err, nothing, starts, run, before, up-to}
+use Rattle.spec.specs.Reading.Refusals.{Refusal, unterminated, no-literal, unexpected, bad-pubid}
+use Rattle.spec.proofs.Agreement.Choices.{on-word}
+use Rattle.spec.proofs.Agreement.Reads.{Took, Reads, Next, seq, weaken}
+use Rattle.spec.proofs.Agreement.Runs.{need, run-took, run-complete, among-ascii}
+use Rattle.spec.proofs.Agreement.Signs.{kind, Class, by-signs, sub-any, sub-refl}
+use Rattle.spec.proofs.Agreement.UpTo.{up-to-reads}
+use Rattle.spec.proofs.Agreement.Words.{wd}
+use Rattle.spec.proofs.Base.Results.{err-ok}
+use Rattle.spec.proofs.Base.Tests.{T→true, true→T, leb-yes, eqb-true, eqb-yes, and-left, or-cases, within-hi}
+use Rattle.spec.proofs.Characters.Bytes.{avoids, class-avoids, avoids-class, not-one}
+use Rattle.spec.proofs.Characters.Text.{star-map}
+
+-- a literal: the first place of the quote, when the quote's byte stands nowhere before it
+before-avoids : (a : ℕ) (u v : List ℕ) → avoids a u ≡ true → before (a ∷ []) (u ++ a ∷ v) ≡ length u
+unfolding before starts
+before-avoids a [] v h = rw (eqb-yes a a refl)
+before-avoids a (b ∷ u) v h = go (eqb b a) h (λ e. before-avoids a u v e)
+  where
+    go : (t : Bool) → (not t && avoids a u) ≡ true → (avoids a u ≡ true → before (a ∷ []) (u ++ a ∷ v) ≡ length u) → pick (t && true) 0 (suc (before (a ∷ []) (u ++ a ∷ v))) ≡ suc (length u)
+    go true e ih = absurd (true≢false (sym e))
+    go false e ih = ap suc (ih e)
+
+avoids-before : (a : ℕ) (u v : List ℕ) → before (a ∷ []) (u ++ a ∷ v) ≡ length u → avoids a u ≡ true
+unfolding before starts
+avoids-before a [] v h = refl
+avoids-before a (b ∷ u) v h = go (eqb b a) h (λ e. avoids-before a u v e)
+  where
+    go : (t : Bool) → pick (t && true) 0 (suc (before (a ∷ []) (u ++ a ∷ v))) ≡ suc (length u) → (before (a ∷ []) (u ++ a ∷ v) ≡ length u → avoids a u ≡ true) → (not t && avoids a u) ≡ true
+    go true e ih = absurd (omega arith)
+    go false e ih = ih (omega arith)
+
+-- what may stand in a literal: a text without the quote that passes the check
+pub record Inside (check : List ℕ → Result) (X : Lang) (a : ℕ) : Type 0 where
+  pub sound-in : (u : List ℕ) (j : ℕ) → Text u → avoids a u ≡ true → check u ≡ ok j → X u
+  pub complete-in : (u : List ℕ) → X u → (j : ℕ) × (check u ≡ ok j)
+  pub free : (u : List ℕ) → X u → avoids a u ≡ true
+
+up-to-quote : (s : String) (a : ℕ) (n : Refusal) (check : List ℕ → Result) (X : Lang) → ascii s ≡ a ∷ [] → a < 128 → Inside check X a → Reads (up-to s n check) (X · lit s) (Next any) any
+up-to-quote s a n check X is l i =
+    up-to-reads s n check X a [] is (true→T (ltb a 128 && true) (rw (leb-yes (suc a) 128 l)))
+    (λ u v j tu h e. i .sound-in u j tu (avoids-before a u v h) e) (i .complete-in) (λ u v x. before-avoids a u v (i .free u x))
+
+-- the quotes, as signs
+abbrev pub quote-first : Class
+quote-first = one-of "\"'"
+
+pub quoted-reads : (check : List ℕ → Result) (D E : Lang) → Inside check D 34 → Inside check E 39 → Reads (parse-quoted check) (Quoted D E) (Next any) quote-first
+unfolding parse-quoted
+quoted-reads check D E i j =
+    weaken sub-any (by-signs tt)
+    (on-word "\"" tt
+    (seq (wd "\"" no-literal tt) sub-any (up-to-quote "\"" 34 unterminated check D refl (omega arith) i))
+    (seq (wd "'" no-literal tt) sub-any (up-to-quote "'" 39 unterminated check E refl (omega arith) j)))
+
+-- SystemLiteral and PubidLiteral
+any-inside : (a : ℕ) (p : ℕ → Bool) → a < 128 → p a ≡ false → ((c : ℕ) → (c ≡ a → ⊥) → T (p c)) → Inside nothing (Star (Ch p)) a
+unfolding nothing Text
+any-inside a p l n in-p = record {
+  sound-in = λ u j tu h e. avoids-class any p a l (λ c t. in-p c) tu h;
+  complete-in = λ u x. (0, refl);
+  free = λ u x. class-avoids p a l n x;
+}
+
+pub system-literal-reads : Reads (parse-quoted nothing) SystemLiteral (Next any) quote-first
+unfolding SystemLiteral
+system-literal-reads =
+    quoted-reads nothing (Star (Ch (none-of "\""))) (Star (Ch (none-of "'")))
+    (any-inside 34 (none-of "\"") (omega arith) refl (not-one 34)) (any-inside 39 (none-of "'") (omega arith) refl (not-one 39))
+
+pubid-ascii : (c : ℕ) → T (pubid-char c) → c < 128
+unfolding pubid-char
+pubid-ascii c t = go₁ (or-cases (one-of " \r\n-'()+,./:=?;!*#@$_%" c || digit c || within 0x41 0x5A c) (within 0x61 0x7A c) (T→true (pubid-char c) t))
+  where
+    go₃ : (one-of " \r\n-'()+,./:=?;!*#@$_%" c ≡ true) ⊎ (digit c ≡ true) → c < 128
+    go₃ (Logic.inl e) = among-ascii (ascii " \r\n-'()+,./:=?;!*#@$_%") tt c (true→T (one-of " \r\n-'()+,./:=?;!*#@$_%" c) e)
+    go₃ (Logic.inr e) = omega (arith, within-hi 0x30 0x39 c e)
+
+    go₂ : ((one-of " \r\n-'()+,./:=?;!*#@$_%" c || digit c) ≡ true) ⊎ (within 0x41 0x5A c ≡ true) → c < 128
+    go₂ (Logic.inl e) = go₃ (or-cases (one-of " \r\n-'()+,./:=?;!*#@$_%" c) (digit c) e)
+    go₂ (Logic.inr e) = omega (arith, within-hi 0x41 0x5A c e)
+
+    go₁ : ((one-of " \r\n-'()+,./:=?;!*#@$_%" c || digit c || within 0x41 0x5A c) ≡ true) ⊎ (within 0x61 0x7A c ≡ true) → c < 128
+    go₁ (Logic.inl e) = go₂ (or-cases (one-of " \r\n-'()+,./:=?;!*#@$_%" c || digit c) (within 0x41 0x5A c) e)
+    go₁ (Logic.inr e) = omega (arith, within-hi 0x61 0x7A c e)
+
+-- a run that is the whole text
+whole-run : (p : ℕ → Bool) → ((c : ℕ) → T (p c) → c < 128) → (u : List ℕ) → Text u → run p u ≡ length u → Star (Ch p) u
+whole-run p small u tu e =
+    let t : Took (Star (Ch p)) (run p u) u = run-took p small u tu in
+    let l : length u ≡ length (t .taken) + length (t .rest) = ap length (t .split) ∙ length-append (t .taken) (t .rest) in
+    let z : length (t .taken) ≡ run p u = t .size in
+    let n : t .rest ≡ [] = length-nil (t .rest) (omega arith) in
+    subst (Star (Ch p)) (sym (t .split ∙ ap (λ (x : List ℕ). t .taken ++ x) n ∙ append-nil (t .taken))) (t .holds)
+  where
+    length-nil : (x : List ℕ) → length x ≡ 0 → x ≡ []
+    length-nil [] e = refl
+    length-nil (b ∷ x) e = absurd (omega arith)
+
+run-whole : (p : ℕ → Bool) → ((c : ℕ) → T (p c) → c < 128) → p 129 ≡ false → {u : List ℕ} → Star (Ch p) u → run p u ≡ length u
+unfolding kind
+run-whole p small n {u} s =
+    ap (run p) (sym (append-nil u))
+    ∙ run-complete p small (λ k. eqb k 129) (record { at = λ k h t. subst (λ (m : ℕ). T (not (p m))) (sym (eqb→eq k 129 t)) (rw n tt) }) [] s tt
+
+pubid-inside : (a : ℕ) (p : ℕ → Bool) → a < 128 → p a ≡ false → ((c : ℕ) → T (p c) → T (pubid-char c)) → ((c : ℕ) → T (pubid-char c) → (c ≡ a → ⊥) → T (p c)) → Inside check-pubid (Star (Ch p)) a
+unfolding check-pubid
+pubid-inside a p l n sub sup = record {
+  sound-in = λ u j tu h e. avoids-class pubid-char p a l sup (whole-run pubid-char pubid-ascii u tu (by-test u j (eqb (run pubid-char u) (length u)) refl e)) h;
+  complete-in = λ u x. (0, rw (eqb-yes (run pubid-char u) (length u) (run-whole pubid-char pubid-ascii (unfold pubid-char in refl) (star-map (λ w c. record { char = c .char; is-scalar = c .is-scalar; in-class = sub (c .char) (c .in-class); bytes = c .bytes }) x))));
+  free = λ u x. class-avoids p a l n x;
+}
+  where
+    by-test : (u : List ℕ) (j : ℕ) (t : Bool) → eqb (run pubid-char u) (length u) ≡ t → pick t (ok 0) (err bad-pubid) ≡ ok j → run pubid-char u ≡ length u
+    by-test u j true f e = eqb-true (run pubid-char u) (length u) f
+    by-test u j false f e = absurd (err-ok bad-pubid j e)
+
+pub pubid-literal-reads : Reads (parse-quoted check-pubid) PubidLiteral (Next any) quote-first
+unfolding PubidLiteral pubid-char
+pubid-literal-reads =
+    quoted-reads check-pubid (Star (Ch pubid-char)) (Star (Ch (λ c. pubid-char c && none-of "'" c)))
+    (pubid-inside 34 pubid-char (omega arith) refl (λ c t. t) (λ c t f. t))
+    (pubid-inside 39 (λ c. pubid-char c && none-of "'" c) (omega arith) refl (λ c t. true→T (pubid-char c) (and-left (pubid-char c) (none-of "'" c) (T→true (pubid-char c && none-of "'" c) t)))
+    (λ c t f. rw (T→true (pubid-char c) t) (not-one 39 c f)))
+
+-- ExternalID
+pub external-id-reads : Reads parse-external-id ExternalID (Next any) (one-of "SP")
+unfolding parse-external-id ExternalID
+external-id-reads =
+    weaken sub-any (by-signs tt)
+    (on-word "SYSTEM" tt
+    (seq (wd "SYSTEM" unexpected tt) sub-any (seq (need quote-first (by-signs tt)) sub-refl system-literal-reads))
+    (seq (wd "PUBLIC" unexpected tt) sub-any (seq (need quote-first (by-signs tt)) sub-refl (seq pubid-literal-reads sub-any (seq (need quote-first (by-signs tt)) sub-refl system-literal-reads)))))

@@ -1,0 +1,188 @@
+-- Character references: their reader, their bytes, and that they take a byte or more. Assumes nothing.
+use mathlib.Core.Logic
+use mathlib.Core.Bool.{Bool, true, false, _&&_, _||_, not, true≢false}
+use mathlib.Core.List.{List, [], _∷_, _++_, append-assoc}
+use mathlib.Core.Logic.{_⊎_}
+use mathlib.Core.Path.{_≡_, refl, sym, _∙_, ap, subst}
+use Prim.Native.Nat.{ℕ, _+_, _<_}
+use Prim.Native.String.{String}
+use native.Mathlib.Omega.{arith}
+use lib.Dec.{T, eqb}
+use lib.ListN.{length, take, drop, length-append}
+use lib.Seq.{drop-append-seam, take-append-seam, take-at}
+use Rattle.spec.specs.Basics.{pick, within}
+use Rattle.spec.specs.Grammar.Characters.{Text, xml-char}
+use Rattle.spec.specs.Grammar.Languages.{Lang, lit, ascii, Ch, _·_, inl, inr, Star, end, more, Plus, any, _∖_, _&_}
+use Rattle.spec.specs.Grammar.References.{digit, hex-digit, denotes-char, value-on, CharRef, Unreferring, Referring}
+use Rattle.spec.specs.Reading.Readers.{ok, err, _>>_, starts, on, word, run}
+use Rattle.spec.specs.Reading.Refusals.{bad-reference, illegal-reference}
+use Rattle.spec.specs.Reading.Wellformed.{reference, char-ref}
+use Rattle.spec.proofs.Agreement.Algebra.{swap}
+use Rattle.spec.proofs.Agreement.Chars.{kind-encode, ch-some}
+use Rattle.spec.proofs.Agreement.Reads.{Took, Reads, Next, Leads, seq, alt, weaken, as-lang, drop-took}
+use Rattle.spec.proofs.Agreement.Runs.{run-took, run-complete, ascii-lead}
+use Rattle.spec.proofs.Agreement.Signs.{kind, Sub, by-signs, sub-any}
+use Rattle.spec.proofs.Agreement.Words.{wd, first-of, starts-self, starts-clash, starts-split, starts-lit}
+use Rattle.spec.proofs.Base.Results.{err-ok, ok-inj}
+use Rattle.spec.proofs.Base.Tests.{T→true, true→T, false→no, eqb-yes, eqb-no, or-cases, or-false-left, or-false-right, within-hi}
+use Rattle.spec.proofs.Characters.Bytes.{avoids-append, class-avoids, avoids}
+use Rattle.spec.proofs.Characters.Text.{text-rest, ascii-text, star-one}
+
+digit-ascii : (c : ℕ) → T (digit c) → c < 128
+digit-ascii c t = omega (arith, within-hi 0x30 0x39 c (T→true (digit c) t))
+
+hex-ascii : (c : ℕ) → T (hex-digit c) → c < 128
+hex-ascii c t = go (or-cases (digit c || within 0x41 0x46 c) (within 0x61 0x66 c) (T→true (hex-digit c) t))
+  where
+    og : (digit c ≡ true) ⊎ (within 0x41 0x46 c ≡ true) → c < 128
+    og (Logic.inl e) = digit-ascii c (true→T (digit c) e)
+    og (Logic.inr e) = omega (arith, within-hi 0x41 0x46 c e)
+
+    go : ((digit c || within 0x41 0x46 c) ≡ true) ⊎ (within 0x61 0x66 c ≡ true) → c < 128
+    go (Logic.inl e) = og (or-cases (digit c) (within 0x41 0x46 c) e)
+    go (Logic.inr e) = omega (arith, within-hi 0x61 0x66 c e)
+
+module _ (base : ℕ) (d : ℕ → Bool) (small : (c : ℕ) → T (d c) → c < 128) (closes : Sub (first-of ";") (λ k. not (d k))) where
+  abbrev Digits : Lang
+  Digits = Plus (Ch d) & denotes-char base
+
+  reference-sound : (w : List ℕ) (k : ℕ) → Text w → reference base d w ≡ ok k → Took (Digits · lit ";") k w
+  unfolding reference denotes-char
+  reference-sound w k tw e = by-form (eqb (run d w) 0 || not (starts (ascii ";") (drop (run d w) w))) refl e
+    where
+      o : Took (Star (Ch d)) (run d w) w
+      o = run-took d small w tw
+
+      plus : (u : List ℕ) → Star (Ch d) u → (length u ≡ 0 → ⊥) → Plus (Ch d) u
+      plus u (end e) h = absurd (h (ap length e))
+      plus u (more x y e l s) h = record { left = x; right = y; split = e; first = l; second = s }
+
+      by-value : eqb (run d w) 0 ≡ false → (v : List ℕ) → o .rest ≡ ascii ";" ++ v → (t : Bool) → xml-char (value-on base 0 (take (run d w) w)) ≡ t → pick t (ok (run d w + 1)) (err illegal-reference) ≡ ok k → Took (Digits · lit ";") k w
+      by-value nz v f false g h = absurd (err-ok illegal-reference k h)
+      by-value nz v f true g h =
+          let z : take (run d w) w ≡ o .taken = ap (take (run d w)) (o .split) ∙ take-at (o .taken) (o .rest) (run d w) (o .size) in
+          record {
+            taken = o .taken ++ ascii ";";
+            rest = v;
+            split = o .split ∙ ap (λ (x : List ℕ). o .taken ++ x) f ∙ sym (append-assoc (o .taken) (ascii ";") v);
+            size = length-append (o .taken) (ascii ";") ∙ ap (λ (x : ℕ). x + 1) (o .size) ∙ ok-inj (run d w + 1) k h;
+            holds = record {
+              left = o .taken;
+              right = ascii ";";
+              split = refl;
+              first = (
+                plus (o .taken) (o .holds) (λ q. false→no (eqb (run d w) 0) nz (true→T (eqb (run d w) 0) (eqb-yes (run d w) 0 (sym (o .size) ∙ q)))),
+                true→T (xml-char (value-on base 0 (o .taken))) (ap (λ (x : List ℕ). xml-char (value-on base 0 x)) (sym z) ∙ g),
+              );
+              second = refl;
+            };
+            left = text-rest v (ascii-text (ascii ";") tt) (subst Text f (o .left));
+          }
+
+      by-form : (t : Bool) → (eqb (run d w) 0 || not (starts (ascii ";") (drop (run d w) w))) ≡ t
+          → pick t (err bad-reference) (pick (xml-char (value-on base 0 (take (run d w) w))) (ok (run d w + 1)) (err illegal-reference)) ≡ ok k → Took (Digits · lit ";") k w
+      by-form true f g = absurd (err-ok bad-reference k g)
+      by-form false f g =
+          let a : not (starts (ascii ";") (drop (run d w) w)) ≡ false = or-false-right (eqb (run d w) 0) (not (starts (ascii ";") (drop (run d w) w))) f in
+          let b : starts (ascii ";") (o .rest) ≡ true = ap (starts (ascii ";")) (sym (drop-took o)) ∙ not-false (starts (ascii ";") (drop (run d w) w)) a in
+          let (v, h) = starts-split (ascii ";") (o .rest) b in
+          by-value (or-false-left (eqb (run d w) 0) (not (starts (ascii ";") (drop (run d w) w))) f) v h (xml-char (value-on base 0 (take (run d w) w))) refl g
+        where
+          not-false : (t : Bool) → not t ≡ false → t ≡ true
+          not-false true e = refl
+          not-false false e = absurd (true≢false e)
+
+  reference-reads : Reads (reference base d) (Digits · lit ";") (Next any) d
+  unfolding reference denotes-char
+  reference-reads = record { sound = reference-sound; complete = complete-by; leads = leads-by }
+    where
+      plus-star : {u : List ℕ} → Plus (Ch d) u → Star (Ch d) u
+      plus-star p = more (p .left) (p .right) (p .split) (p .first) (p .second)
+
+      complete-by : (u v : List ℕ) → (Digits · lit ";") u → Next any v → reference base d (u ++ v) ≡ ok (length u)
+      complete-by u v l t =
+          let x : List ℕ = l .left in
+          let e : u ++ v ≡ x ++ (59 ∷ v) = ap (λ (z : List ℕ). z ++ v) (l .split ∙ ap (λ (z : List ℕ). x ++ z) (l .second)) ∙ append-assoc x (ascii ";") v in
+          let r : run d (x ++ (59 ∷ v)) ≡ length x = run-complete d small (first-of ";") closes (59 ∷ v) (plus-star (l .first .0)) (unfold kind in tt) in
+          let p : Plus (Ch d) x = l .first .0 in
+          let n : length x ≡ length (p .left) + length (p .right) = ap length (p .split) ∙ length-append (p .left) (p .right) in
+          let m : 0 < length (p .left) = ch-some (p .left) (p .first) in
+          let z : eqb (length x) 0 ≡ false = eqb-no (length x) 0 (λ q. omega arith) in
+          let len : length u ≡ length x + 1 = ap length (l .split) ∙ length-append x (l .right) ∙ ap (λ (q : List ℕ). length x + length q) (l .second) in
+          rw (e, r, z, drop-append-seam x (59 ∷ v), starts-self (ascii ";") v, take-append-seam x (59 ∷ v), T→true (xml-char (value-on base 0 x)) (l .first .1), len)
+
+      leads-by : Leads (Digits · lit ";") (Next any) d
+      leads-by u v l t =
+          let p : Plus (Ch d) (l .left) = l .first .0 in
+          let c : Ch d (p .left) = p .first in
+          rw (l .split, p .split, append-assoc (p .left ++ p .right) (l .right) v, append-assoc (p .left) (p .right) (l .right ++ v), c .bytes, kind-encode (c .char) (p .right ++ (l .right ++ v)))
+          (ascii-lead d small (c .char) (c .in-class))
+
+pub char-ref-reads : Reads char-ref CharRef (Next any) (first-of "&")
+unfolding char-ref CharRef on
+char-ref-reads =
+    weaken sub-any (by-signs tt)
+    (as-lang swap (alt (starts (ascii "&#x")) (λ u v l t. starts-lit "&#x" v l) no-x (seq (wd "&#x" bad-reference tt) sub-any (reference-reads 16 hex-digit hex-ascii (by-signs tt))) decimal))
+  where
+    decimal : Reads (word "&#" bad-reference >> reference 10 digit) (lit "&#" · (Plus (Ch digit) & denotes-char 10) · lit ";") (Next any) (first-of "&")
+    decimal = seq (wd "&#" bad-reference tt) sub-any (reference-reads 10 digit digit-ascii (by-signs tt))
+
+    no-x : (u v : List ℕ) → (lit "&#" · (Plus (Ch digit) & denotes-char 10) · lit ";") u → Next any v → starts (ascii "&#x") (u ++ v) ≡ false
+    no-x u v l t =
+        ap (starts (ascii "&#x")) (ap (λ (z : List ℕ). z ++ v) (l .split ∙ ap (λ (z : List ℕ). z ++ l .right) (l .first)))
+        ∙ starts-clash (ascii "&#x") (ascii "&#") digit (l .right ++ v) tt (reference-reads 10 digit digit-ascii (by-signs tt) .leads (l .right) v (l .second) t)
+
+-- each begins with "&#"
+abbrev pub AR : List ℕ
+AR = ascii "&#"
+
+pub ref-starts : (u v : List ℕ) → CharRef u → starts AR (u ++ v) ≡ true
+unfolding CharRef starts
+ref-starts u v (inl l) = starts-lit "&#" v l
+ref-starts u v (inr l) = ap (starts AR) (ap (λ (z : List ℕ). z ++ v) (l .split ∙ ap (λ (z : List ℕ). z ++ l .right) (l .first)))
+
+pub ref-some : (u : List ℕ) → CharRef u → 0 < length u
+unfolding starts
+ref-some [] c = absurd (true≢false (sym (ref-starts [] [] c)))
+ref-some (b ∷ u) c = omega arith
+
+-- and no byte of the quote stands in such a value
+abbrev pub Avoiding : ℕ → Lang → Type 0
+Avoiding a L = (u : List ℕ) → L u → avoids a u ≡ true
+
+avoiding-cat : (a : ℕ) {L M : Lang} → Avoiding a L → Avoiding a M → Avoiding a (L · M)
+avoiding-cat a f g u c = ap (avoids a) (c .split) ∙ avoids-append a (c .left) (c .right) ∙ (λ i. f (c .left) (c .first) i && g (c .right) (c .second) i)
+
+avoiding-star : (a : ℕ) {L : Lang} → Avoiding a L → Avoiding a (Star L)
+avoiding-star a {L} f u s = go s
+  where
+    go : {u : List ℕ} → Star L u → avoids a u ≡ true
+    go (end e) = ap (avoids a) e
+    go (more x y e l s) = ap (avoids a) e ∙ avoids-append a x y ∙ (λ i. f x l i && go s i)
+
+avoiding-lit : (a : ℕ) (s : String) → avoids a (ascii s) ≡ true → Avoiding a (lit s)
+avoiding-lit a s h u e = ap (avoids a) e ∙ h
+
+-- a sign that no reference has
+pub record Foreign (a : ℕ) : Type 0 where
+  pub small : a < 128
+  pub opening : avoids a (ascii "&#") ≡ true
+  pub opening-x : avoids a (ascii "&#x") ≡ true
+  pub closing : avoids a (ascii ";") ≡ true
+  pub no-digit : digit a ≡ false
+  pub no-hex : hex-digit a ≡ false
+
+plus-avoiding : (a : ℕ) (d : ℕ → Bool) → a < 128 → d a ≡ false → Avoiding a (Plus (Ch d))
+plus-avoiding a d l n = avoiding-cat a (λ u c. class-avoids d a l n (star-one c)) (λ u s. class-avoids d a l n s)
+
+pub avoiding-ref : (a : ℕ) → Foreign a → Avoiding a CharRef
+unfolding CharRef
+avoiding-ref a f u (inl l) = avoiding-cat a (avoiding-lit a "&#" (f .opening)) (avoiding-cat a (λ x c. plus-avoiding a digit (f .small) (f .no-digit) x (c .0)) (avoiding-lit a ";" (f .closing))) u l
+avoiding-ref a f u (inr l) = avoiding-cat a (avoiding-lit a "&#x" (f .opening-x)) (avoiding-cat a (λ x c. plus-avoiding a hex-digit (f .small) (f .no-hex) x (c .0)) (avoiding-lit a ";" (f .closing))) u l
+
+pub ref-avoids : (p : ℕ → Bool) (a : ℕ) → Foreign a → p a ≡ false → Avoiding a (Referring p)
+unfolding Referring Unreferring
+ref-avoids p a f n = avoiding-cat a free (avoiding-star a (avoiding-cat a (avoiding-ref a f) free))
+  where
+    free : Avoiding a (Star (Ch p) ∖ (Text · lit "&#" · Text))
+    free u x = class-avoids p a (f .small) n (x .0)
