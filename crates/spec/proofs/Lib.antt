@@ -3,3 +3,4 @@ pub mod Characters
 pub mod Agreement
 pub mod Wellformed
 pub mod Dtd
+pub mod Rows

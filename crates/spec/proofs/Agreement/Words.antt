@@ -10,7 +10,7 @@ use lib.ListN.{length, take}
 use Rattle.spec.specs.Basics.{pick}
 use Rattle.spec.specs.Grammar.Characters.{Text}
 use Rattle.spec.specs.Grammar.Languages.{Lang, lit, ascii, _·_, any}
-use Rattle.spec.specs.Reading.Readers.{ok, err, starts, word, contains, before}
+use Rattle.spec.specs.Reading.Readers.{word-of, ok, err, starts, word, contains, before}
 use Rattle.spec.specs.Reading.Refusals.{Refusal}
 use Rattle.spec.proofs.Agreement.Reads.{Took, Leads, Reads, Next}
 use Rattle.spec.proofs.Agreement.Signs.{kind, Class, kind-ascii}
@@ -82,7 +82,7 @@ starts-split (a ∷ s) (b ∷ w) e =
     (v, (λ i. eqb-true b a (and-left (eqb b a) (starts s w) e) i ∷ f i))
 
 pub wd : (s : String) (n : Refusal) → T (plain (ascii s)) → Reads (word s n) (lit s) (Next any) (first-of s)
-unfolding word
+unfolding word-of
 wd s n h = record { sound = λ w k tw e. sound-by w k tw (starts (ascii s) w) refl e; complete = complete-by; leads = λ u v e t. subst (λ (x : List ℕ). T (first-of s (kind (x ++ v)))) (sym e) (leads-lit (ascii s) v h) }
   where
     is-ascii : (x : List ℕ) → T (plain x) → T (all-ascii x)

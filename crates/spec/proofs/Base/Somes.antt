@@ -10,7 +10,7 @@ use Rattle.spec.specs.Basics.{pick}
 use Rattle.spec.specs.Grammar.Languages.{ascii}
 use Rattle.spec.specs.Grammar.References.{digit, hex-digit}
 use Rattle.spec.specs.Grammar.Utf8.{encode}
-use Rattle.spec.specs.Reading.Readers.{Result, ok, err, Reader, on-ok, past, _>>_, refuse, starts, choose, on, word, a-byte, of-point, char}
+use Rattle.spec.specs.Reading.Readers.{word-of, Result, ok, err, Reader, on-ok, past, _>>_, refuse, starts, choose, on, word, a-byte, of-point, char}
 use Rattle.spec.specs.Reading.Refusals.{Refusal, bad-reference, illegal-char, section-end, less-than}
 use Rattle.spec.specs.Reading.Utf8.{decode1, Point, point, no-point}
 use Rattle.spec.specs.Reading.Wellformed.{illegal-here, legal-byte, reference, char-ref, ref-or-byte, text-step, attr-step}
@@ -39,7 +39,7 @@ unfolding on
 some-on k A B p q = some-choose (starts (ascii k)) A B p q
 
 pub some-word : (k : String) (n : Refusal) → 0 < length (ascii k) → Somes (word k n)
-unfolding word
+unfolding word-of
 some-word k n h = record { some = λ b w. go (starts (ascii k) (b ∷ w)) }
   where
     go : (x : Bool) (j : ℕ) → pick x (ok (length (ascii k))) (err n) ≡ ok j → 0 < j

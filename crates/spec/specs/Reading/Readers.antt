@@ -66,9 +66,12 @@ choose t r q w = pick (t w) r q w
 unfoldable pub on : String → Reader → Reader → Reader
 on s = choose (starts (ascii s))
 
--- the word itself, or refusal n
-unfoldable pub word : String → Refusal → Reader
-word s n w = pick (starts (ascii s) w) (ok (length (ascii s))) (err n)
+-- these bytes, or refusal n; a word's bytes
+unfoldable pub word-of : List ℕ → Refusal → Reader
+word-of p n w = pick (starts p w) (ok (length p)) (err n)
+
+abbrev pub word : String → Refusal → Reader
+word s n = word-of (ascii s) n
 
 -- how many bytes of the class stand first
 unfoldable pub run : (ℕ → Bool) → List ℕ → ℕ
