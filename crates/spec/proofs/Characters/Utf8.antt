@@ -1,18 +1,18 @@
 -- A scalar value's bytes read back, and what is read is a scalar value's bytes. Assumes nothing.
+use mathlib.Core.Path.{_≡_, refl, sym, _∙_, ap}
+use mathlib.Core.Logic.{_⊎_, inl, inr, ⊎-elim}
 use mathlib.Core.Bool.{Bool, true, false, _&&_, _||_}
 use mathlib.Core.List.{List, [], _∷_, _++_}
-use mathlib.Core.Logic.{_⊎_, inl, inr, ⊎-elim}
-use mathlib.Core.Path.{_≡_, refl, sym, _∙_, ap}
 use Prim.Native.Nat.{ℕ, suc, _+_, _*_, _/_, _%_, _≤_, _<_}
 use native.Mathlib.Omega.{arith}
+use borrow.Author.Tests.{eqb-false}
 use lib.Dec.{leb, ltb, eqb}
 use lib.ListN.{length, getD, drop}
 use Rattle.spec.specs.Basics.{pick, within}
 use Rattle.spec.specs.Grammar.Utf8.{scalar, encode}
 use Rattle.spec.specs.Reading.Utf8.{point, no-point, tail, two, lead-3, three, lead-4, four, decode4, decode1}
-use Rattle.spec.proofs.Base.Places.{byte-in, drop-at}
 use Rattle.spec.proofs.Base.Tests.{decide, leb-yes, leb-no, leb-true, leb-false, eqb-true, eqb-no, and-left, and-right, or-cases, within-yes, within-high, within-lo, within-hi}
-use borrow.Author.Tests.{eqb-false}
+use Rattle.spec.proofs.Base.Places.{byte-in, drop-at}
 
 -- section 3: the four rows of the table
 pub encode-1 : (c : ℕ) → c < 0x80 → encode c ≡ c ∷ []
@@ -180,15 +180,15 @@ decode-encode c v s = go (decide (ltb c 0x10000)) (decide (ltb c 0x800)) (decide
         rw (encode-2 c (omega arith) g) (decode-2 c v (omega arith) g)
     go (inl f) (inl g) (inl e) = let g : c < 0x80 = leb-true (suc c) 0x80 e in rw (encode-1 c g) (decode-1 c v g)
 
-pub no-point-is : {c k : ℕ} → no-point ≡ point c k → ⊥
-no-point-is e = let z : _≡_ {A = ℕ} 0 1 = cc in omega arith
+pub no-point≢point : {c k : ℕ} → no-point ≡ point c k → ⊥
+no-point≢point e = let z : _≡_ {A = ℕ} 0 1 = cc in omega arith
 
 pub encode-nonempty : (c : ℕ) → scalar c ≡ true → 0 < length (encode c)
 unfolding decode1
 encode-nonempty c s = go (encode c) (decode-encode c [] s)
   where
     go : (w : List ℕ) → decode1 (w ++ []) ≡ point c (length w) → 0 < length w
-    go [] e = absurd (no-point-is e)
+    go [] e = absurd (no-point≢point e)
     go (b ∷ w) e = omega arith
 
 -- what was read: a scalar value's bytes, and what stands after them
@@ -312,7 +312,7 @@ by-pick false x y z f g e = g e
 
 pub decode-read : (c k : ℕ) (w : List ℕ) → decode1 w ≡ point c k → Read c k w
 unfolding decode1 decode4
-decode-read c k [] e = absurd (no-point-is e)
+decode-read c k [] e = absurd (no-point≢point e)
 decode-read c k (a ∷ w) e =
     by-pick (ltb a 0x80) (point a 1) _ _
     (λ t e.
@@ -330,4 +330,4 @@ decode-read c k (a ∷ w) e =
     (λ t e.
     let h = tail-in w 2 (and-right (lead-4 a (getD w 0 0) && tail (getD w 1 0)) (tail (getD w 2 0)) t) in
     read-4 c k (a ∷ w) (drop 3 w) a (getD w 0 0) (getD w 1 0) (getD w 2 0) (rw (← drop-at w 2 h, ← drop-at w 1 (omega arith), ← drop-at w 0 (omega arith))) t e)
-    (λ e. absurd (no-point-is e))))) e
+    (λ e. absurd (no-point≢point e))))) e

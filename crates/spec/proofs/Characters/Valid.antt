@@ -1,25 +1,26 @@
 -- The reader of UTF-8 and the grammar's texts; and what stands in front of every public call. Assumes nothing.
+use mathlib.Core.Path.{_≡_, refl, sym, _∙_, ap}
+use mathlib.Core.Logic.{_⊎_, inl, inr, ⊎-elim}
 use mathlib.Core.Bool.{Bool, true, false}
 use mathlib.Core.List.{List, [], _∷_, _++_}
-use mathlib.Core.Path.{_≡_, refl, sym, _∙_, ap}
 use Prim.Native.Nat.{ℕ, zero, suc, _+_, _≤_, _<_}
 use native.Mathlib.Omega.{arith}
 use lib.Dec.{ltb}
 use lib.ListN.{length, drop, length-append}
 use lib.Seq.{drop-append-seam, drop-at}
 use Rattle.spec.specs.Basics.{pick}
-use Rattle.spec.specs.Grammar.Characters.{Text}
-use Rattle.spec.specs.Grammar.Languages.{Ch, Star, end, more, any}
 use Rattle.spec.specs.Grammar.Utf8.{scalar, encode}
-use Rattle.spec.specs.Reading.Readers.{ok, err, past, of-point, char}
+use Rattle.spec.specs.Grammar.Languages.{Ch, Star, end, more, any}
+use Rattle.spec.specs.Grammar.Characters.{Text}
 use Rattle.spec.specs.Reading.Refusals.{Refusal, too-long, not-utf8}
-use Rattle.spec.specs.Reading.Source.{utf8, limit, admit}
 use Rattle.spec.specs.Reading.Utf8.{Point, point, no-point, decode1}
-use Rattle.spec.proofs.Base.Loops.{through-end, through-turn, through-refused}
-use Rattle.spec.proofs.Base.Results.{err-ok, past-ok}
-use Rattle.spec.proofs.Base.Somes.{some-char}
+use Rattle.spec.specs.Reading.Readers.{ok, err, past, of-point, char}
+use Rattle.spec.specs.Reading.Source.{utf8, limit, admit}
 use Rattle.spec.proofs.Base.Tests.{T→true, true→T, leb-no, leb-false}
-use Rattle.spec.proofs.Characters.Utf8.{Read, decode-read, decode-encode, encode-nonempty, no-point-is}
+use Rattle.spec.proofs.Characters.Utf8.{Read, decode-read, decode-encode, encode-nonempty, no-point≢point}
+use Rattle.spec.proofs.Base.Results.{err-ok}
+use Rattle.spec.proofs.Base.Somes.{some-char}
+use Rattle.spec.proofs.Base.Loops.{through-end, through-turn, through-refused}
 
 -- one character: what it took was a code point of the class
 pub char-point : (p : ℕ → Bool) (n : Refusal) (w : List ℕ) (k : ℕ) → char p n w ≡ ok k → (c : ℕ) × ((decode1 w ≡ point c k) × (p c ≡ true))
@@ -50,35 +51,39 @@ utf8-end = through-end (char any not-utf8)
 
 pub utf8-turn : (w : List ℕ) (c k : ℕ) → decode1 w ≡ point c k → utf8 w ≡ past k (utf8 (drop k w))
 unfolding utf8 char decode1
-utf8-turn [] c k e = absurd (no-point-is e)
+utf8-turn [] c k e = absurd (no-point≢point e)
 utf8-turn (b ∷ w) c k e = through-turn (char any not-utf8) (some-char any not-utf8) b w k (rw e)
 
 pub utf8-stop : (b : ℕ) (w : List ℕ) → decode1 (b ∷ w) ≡ no-point → utf8 (b ∷ w) ≡ err not-utf8
 unfolding utf8 char
 utf8-stop b w e = through-refused (char any not-utf8) b w not-utf8 (rw e)
 
--- what it takes is a text
-sound-to : (d : ℕ) (w : List ℕ) (k : ℕ) → length w ≤ d → utf8 w ≡ ok k → Star (Ch any) w
-sound-to zero [] k h e = end refl
-sound-to (suc d) [] k h e = end refl
-sound-to zero (b ∷ w) k h e = absurd (omega arith)
-sound-to (suc d) (b ∷ w) k h e = go (decode1 (b ∷ w)) refl (λ x. sound-to d x)
+-- a text, or no code point at some place of it
+cases-to : (d : ℕ) (w : List ℕ) → length w ≤ d → Star (Ch any) w ⊎ (utf8 w ≡ err not-utf8)
+cases-to zero [] h = inl (end refl)
+cases-to (suc d) [] h = inl (end refl)
+cases-to zero (b ∷ w) h = absurd (omega arith)
+cases-to (suc d) (b ∷ w) h = go (decode1 (b ∷ w)) refl (λ x. cases-to d x)
   where
-    go : (p : Point) → decode1 (b ∷ w) ≡ p → ((x : List ℕ) (i : ℕ) → length x ≤ d → utf8 x ≡ ok i → Star (Ch any) x) → Star (Ch any) (b ∷ w)
-    go no-point f ih = absurd (err-ok not-utf8 k (sym (utf8-stop b w f) ∙ e))
+    go : (p : Point) → decode1 (b ∷ w) ≡ p → ((x : List ℕ) → length x ≤ d → Star (Ch any) x ⊎ (utf8 x ≡ err not-utf8)) → Star (Ch any) (b ∷ w) ⊎ (utf8 (b ∷ w) ≡ err not-utf8)
+    go no-point f ih = inr (utf8-stop b w f)
     go (point c j) f ih =
         let r : Read c j (b ∷ w) = decode-read c j (b ∷ w) f in
         let n = point-size c j (b ∷ w) f in
         let l : suc (length w) ≡ length (encode c) + length (r .rest) = ap length (r .split) ∙ length-append (encode c) (r .rest) in
         let s : length (encode c) ≡ j = r .size in
         let x : drop j (b ∷ w) ≡ r .rest = ap (drop j) (r .split) ∙ drop-at (encode c) (r .rest) j s in
-        let (i, g) = past-ok j k (utf8 (drop j (b ∷ w))) (sym (utf8-turn (b ∷ w) c j f) ∙ e) in
-        more (encode c) (r .rest) (r .split) (record { char = c; is-scalar = true→T (scalar c) (r .is-scalar); in-class = tt; bytes = refl })
-        (ih (r .rest) i (omega arith) (ap utf8 (sym x) ∙ g))
+        ⊎-elim (λ t. inl (more (encode c) (r .rest) (r .split) (record { char = c; is-scalar = true→T (scalar c) (r .is-scalar); in-class = tt; bytes = refl }) t))
+        (λ e. inr (utf8-turn (b ∷ w) c j f ∙ ap (λ (v : List ℕ). past j (utf8 v)) x ∙ (rw e)))
+        (ih (r .rest) (omega arith))
 
-pub utf8-sound : (w : List ℕ) (k : ℕ) → utf8 w ≡ ok k → Text w
+pub utf8-cases : (w : List ℕ) → Text w ⊎ (utf8 w ≡ err not-utf8)
 unfolding Text
-utf8-sound w k e = sound-to (length w) w k (omega arith) e
+utf8-cases w = cases-to (length w) w (omega arith)
+
+-- what it takes is a text
+pub utf8-sound : (w : List ℕ) (k : ℕ) → utf8 w ≡ ok k → Text w
+utf8-sound w k e = ⊎-elim (λ t. t) (λ f. absurd (err-ok not-utf8 k (sym f ∙ e))) (utf8-cases w)
 
 -- and each text it takes whole
 complete-to : {w : List ℕ} → Star (Ch any) w → utf8 w ≡ ok (length w)
