@@ -8,12 +8,11 @@ use native.Mathlib.Omega.{arith}
 use lib.ListN.{length, drop}
 use Rattle.spec.specs.Basics.{pick}
 use Rattle.spec.specs.Grammar.Languages.{ascii}
-use Rattle.spec.specs.Grammar.References.{digit, hex-digit}
 use Rattle.spec.specs.Grammar.Utf8.{encode}
 use Rattle.spec.specs.Reading.Readers.{word-of, Result, ok, err, Reader, on-ok, past, _>>_, refuse, starts, choose, on, word, a-byte, of-point, char}
-use Rattle.spec.specs.Reading.Refusals.{Refusal, bad-reference, illegal-char, section-end, less-than}
+use Rattle.spec.specs.Reading.Refusals.{Refusal, bad-reference}
 use Rattle.spec.specs.Reading.Utf8.{decode1, Point, point, no-point}
-use Rattle.spec.specs.Reading.Wellformed.{illegal-here, legal-byte, reference, char-ref, ref-or-byte, text-step, attr-step}
+use Rattle.spec.specs.Reading.Wellformed.{legal-byte, char-ref, ref-or-byte, text-step, attr-step}
 use Rattle.spec.proofs.Base.Loops.{Somes}
 use Rattle.spec.proofs.Base.Results.{err-ok, ok-inj}
 use Rattle.spec.proofs.Characters.Utf8.{encode-nonempty, Read, decode-read}
@@ -78,23 +77,21 @@ some-char p n = record { some = λ b w j e. go (b ∷ w) j (decode1 (b ∷ w)) r
 -- the steps of the checks
 pub some-legal : Somes legal-byte
 unfolding legal-byte
-some-legal = some-choose illegal-here (refuse illegal-char) a-byte (some-refuse illegal-char) some-byte
+some-legal = some-choose _ _ _ (some-refuse _) some-byte
 
 pub some-ref : Somes char-ref
 unfolding char-ref
 some-ref =
-    some-on "&#x" (word "&#x" bad-reference >> reference 16 hex-digit) (word "&#" bad-reference >> reference 10 digit)
-    (some-then (word "&#x" bad-reference) (reference 16 hex-digit) (some-word "&#x" bad-reference (omega arith)))
-    (some-then (word "&#" bad-reference) (reference 10 digit) (some-word "&#" bad-reference (omega arith)))
+    some-on "&#x" _ _ (some-then _ _ (some-word "&#x" bad-reference (omega arith))) (some-then _ _ (some-word "&#" bad-reference (omega arith)))
 
 pub some-ref-or-byte : Somes ref-or-byte
 unfolding ref-or-byte
-some-ref-or-byte = some-on "&#" char-ref a-byte some-ref some-byte
+some-ref-or-byte = some-on "&#" _ _ some-ref some-byte
 
 pub some-text : Somes text-step
 unfolding text-step
-some-text = some-on "]]>" (refuse section-end) (on "&#" char-ref legal-byte) (some-refuse section-end) (some-on "&#" char-ref legal-byte some-ref some-legal)
+some-text = some-on "]]>" _ _ (some-refuse _) (some-on "&#" _ _ some-ref some-legal)
 
 pub some-attr : Somes attr-step
 unfolding attr-step
-some-attr = some-on "<" (refuse less-than) (on "&#" char-ref legal-byte) (some-refuse less-than) (some-on "&#" char-ref legal-byte some-ref some-legal)
+some-attr = some-on "<" _ _ (some-refuse _) (some-on "&#" _ _ some-ref some-legal)

@@ -15,7 +15,7 @@ use Rattle.spec.specs.Grammar.Languages.{Lang, lit, ascii, _·_, _∣_, 
 use Rattle.spec.specs.Grammar.Names.{Dialect, Name}
 use Rattle.spec.specs.Reading.Dtd.{skip-s, after, parse-mixed, connector, connected, group-of, occurs, cp-of, parse-group, parse-children, parse-contentspec, parse-element-decl}
 use Rattle.spec.specs.Reading.Readers.{Reader, _>>_, nothing, starts, on, word, run, while, begins}
-use Rattle.spec.specs.Reading.Refusals.{unexpected, trailing, bad-connector, too-deep}
+use Rattle.spec.specs.Reading.Refusals.{unexpected, trailing, bad-connector}
 use Rattle.spec.specs.Reading.Wellformed.{name}
 use Rattle.spec.proofs.Agreement.Algebra.{ε, same, back, _then_, cat, cat₂, either, assoc, over-right, over-left, plus-or-none, no-other, starred, rotate, rotate-plus, swap, regroup, none-before, none-after, words}
 use Rattle.spec.proofs.Agreement.Chars.{one-char, begins-ch, begins-stop}
@@ -151,7 +151,7 @@ module _ (D : Dialect) (A : AsciiNames D) where
 
   pub groups-read : (h : ℕ) → Reads (parse-group D h) (Group D h) (Next any) (first-of "(")
   unfolding parse-group Group
-  groups-read zero = refuse-reads too-deep (first-of "(")
+  groups-read zero = refuse-reads (D .beyond) (first-of "(")
   groups-read (suc h) = group-reads (cp-reads (group-begun h) (groups-read h))
 
   -- Mixed, as it is read and as it is written

@@ -7,6 +7,7 @@ use lib.Dec.{leb, ltb}
 use Rattle.spec.specs.Basics.{within}
 use Rattle.spec.specs.Grammar.Languages.{one-of}
 use Rattle.spec.specs.Grammar.Names.{Dialect}
+use Rattle.spec.specs.Reading.Refusals.{too-deep}
 
 -- [85] BaseChar
 abbrev pub base-chars : List ℕ
@@ -93,6 +94,6 @@ start-char c = one-of ":_" c || in-table base-chars c || in-table ideographs c
 unfoldable pub part-char : ℕ → Bool
 part-char c = start-char c || one-of "-." c || in-table digits c || in-table combining c || in-table extenders c
 
--- with at most 64 open groups
+-- with at most 64 open groups, and 20 for a 65th
 abbrev pub appendix-B : Dialect
-appendix-B = record { start = start-char; part = part-char; groups = 64 }
+appendix-B = record { start = start-char; part = part-char; groups = 64; beyond = too-deep }

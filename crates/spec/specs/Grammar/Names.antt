@@ -3,13 +3,23 @@ use mathlib.Core.Bool.{Bool}
 use Prim.Native.Nat.{ℕ}
 use Rattle.spec.specs.Grammar.Languages.{Lang, lit, Ch, _·_, _∖_, Star, Plus, one-of}
 use Rattle.spec.specs.Grammar.Characters.{Text}
+use Rattle.spec.specs.Reading.Refusals.{Refusal}
 
 -- What the grammar and the order of reading leave open: the characters that begin a name ([4] NameStartChar) and that go on with
--- it ([4a] NameChar), and how many groups of a content model may be open at one time (added: the Rust has no such limit)
+-- it ([4a] NameChar); and, added, how many groups of a content model may be open at one time, and what the order of reading refuses
+-- one more with. That refusal is left open so that a theorem can say when it is met: exactly when, whatever it is, it is the answer.
 pub record Dialect : Type 0 where
   pub start : ℕ → Bool
   pub part : ℕ → Bool
   pub groups : ℕ
+  pub beyond : Refusal
+
+-- the same with another limit, and with another refusal
+abbrev pub with-groups : Dialect → ℕ → Dialect
+with-groups D n = record { start = D .start; part = D .part; groups = n; beyond = D .beyond }
+
+abbrev pub with-beyond : Dialect → Refusal → Dialect
+with-beyond D r = record { start = D .start; part = D .part; groups = D .groups; beyond = r }
 
 module _ (D : Dialect) where
   -- [5] Name ::= NameStartChar (NameChar)*

@@ -153,7 +153,7 @@ module _ (D : Dialect) where
 
   -- parse_group and parse_cp, where so many groups may yet be opened
   unfoldable pub parse-group : ℕ → Reader
-  parse-group zero = refuse too-deep
+  parse-group zero = refuse (D .beyond)
   parse-group (suc height) = group-of (cp-of (parse-group height))
 
   -- parse_children, which parse_contentspec calls at a '('
