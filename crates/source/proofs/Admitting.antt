@@ -1,5 +1,5 @@
 -- Laws of what stands in front of a public call: the two numbers in their order, and the answer of is_utf8. Assumes nothing.
-use mathlib.Core.Path.{_≡_, refl, sym, ap, _∙_}
+use mathlib.Core.Path.{_≡_, refl, sym, ap}
 use mathlib.Core.Logic.{_⊎_, inl, inr}
 use mathlib.Core.Bool.{Bool, true, false, true≢false}
 use mathlib.Core.List.{List}
@@ -12,17 +12,13 @@ use lib.ListN.{length}
 use Rattle.spec.specs.Basics.{pick}
 use Rattle.spec.specs.Grammar.Languages.{Lang}
 use Rattle.spec.specs.Grammar.Characters.{Text}
-use Rattle.spec.specs.Reading.Refusals.{number, not-utf8}
+use Rattle.spec.specs.Reading.Refusals.{not-utf8}
 use Rattle.spec.specs.Reading.Readers.{Result, ok, err, Reader, number-of, on-ok, nothing}
 use Rattle.spec.specs.Reading.Source.{utf8, limit, admit, checked}
-use Rattle.spec.specs.Promises.{Tells}
+use Rattle.spec.specs.Promises.{Checks, Tells}
 use Rattle.spec.proofs.Base.Tests.{leb-yes, leb-no}
 use Rattle.spec.proofs.Characters.Valid.{utf8-cases, utf8-complete}
-use Rattle.spec.proofs.Agreement.Accepts.{Agrees, Decides, admitted, not-admitted, told, told-no}
-use Rattle.error.specs.Read.{read}
-use Rattle.error.specs.declared.Answer.{Answer}
-use Rattle.error.specs.declared.Answer.the-variants.{At, No}
-use Rattle.error.proofs.Laws.{was-ok, was-err}
+use Rattle.spec.proofs.Agreement.Accepts.{Agrees, Decides, admitted, not-admitted, promise, told, told-no}
 use Rattle.source.specs.Seen.{accepts}
 
 -- 1 before 2
@@ -68,19 +64,16 @@ told-text w n e = go (eqb n 0) refl
     go true f = told all w n true e (eqb-true n 0 f) refl
     go false f = told-no all w n e (eqb-false n 0 f)
 
--- a public call after admit: the rule's answer at the text's front is the call's number
-module _ (rule : Reader) (w : List ℕ) (n : ℕ) (r : Answer) (e : n ≡ checked nothing w) (z : n ≡ 0) (a : r ≡ read rule w 0) where
-  pub checked-at : (i : ℕ) → r ≡ At i → 0 ≡ checked rule w
-  checked-at i f = let (k, (g, _)) = was-ok rule w 0 i r a f in admitted rule w n e 0 z (sym (ap number-of g))
+-- a public check after admit: n is the number in front, and m the rule's own
+module _ (rule : Reader) (L : Lang) (w : List ℕ) (n : ℕ) where
+  pub call-refused : Agrees rule L → n ≡ checked nothing w → (n ≡ 0 → ⊥) → Checks rule L w n
+  call-refused a e z = promise a w n (not-admitted rule w n e z)
 
-  pub checked-no : (m : ℕ) → r ≡ No m → m ≡ checked rule w
-  checked-no m f =
-      let (q, (g, h)) = was-err rule w 0 m r a f in
-      let k : m ≡ number q = cc in
-      admitted rule w n e m z (k ∙ sym (ap number-of g))
+  pub call-answered : (m : ℕ) → Agrees rule L → n ≡ checked nothing w → n ≡ 0 → m ≡ number-of (rule w) → Checks rule L w m
+  call-answered m a e z f = promise a w m (admitted rule w n e m z f)
 
--- what the proofs of other crates' public calls search
-pub ruleset calling = (not-admitted, checked-at, checked-no, told, told-no, needs)
+-- what the proofs of other crates' public calls search, with the agreement of their rule
+pub ruleset calling = (call-refused, call-answered, told, told-no, needs)
 
 -- what the proofs of this crate's public calls search
 pub ruleset admitting = (admit-long, admit-yes, admit-no, told-text, needs)

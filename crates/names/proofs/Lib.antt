@@ -1,0 +1,4 @@
+pub mod RangeLaws
+pub mod ClassLaws
+pub mod PlaceLaws
+pub mod Calls

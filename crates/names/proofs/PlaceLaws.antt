@@ -1,0 +1,162 @@
+-- Names at a place in a text: the code's loop over name characters, for any classes. Assumes nothing.
+use mathlib.Core.Path.{_≡_, refl, sym, ap, subst, _∙_}
+use mathlib.Core.Bool.{Bool, true, false}
+use mathlib.Core.List.{List}
+use Prim.Native.Nat.{ℕ, _+_, _-_, _<_, _≤_}
+use native.Mathlib.Nat.{add-assoc, add-zero, zero-add, min-eq-left}
+use native.Mathlib.Omega.{arith}
+use borrow.Author.Needs.{needs}
+use lib.ListN.{length, take, drop, getD, length-drop, length-take}
+use lib.Seq.{drop-drop, take-nil}
+use Rattle.spec.specs.Grammar.Names.{Dialect, Name}
+use Rattle.spec.specs.Reading.Refusals.{number, bad-name}
+use Rattle.spec.specs.Reading.Utf8.{decode1}
+use Rattle.spec.specs.Reading.Readers.{Result, ok, err, number-of, taken, past, _>>_, at-end, char}
+use Rattle.spec.specs.Reading.Wellformed.{parts, name, name-length, check-name}
+use Rattle.spec.proofs.Base.Places.{drop-at, drop-end}
+use Rattle.spec.proofs.Wellformed.LongestName.{char-is, char-not, char-none, chars-stop, chars-turn, parts-ok, name-first, name-none, Named, a-name, no-name, named, name-within, name-is-name, name-longest}
+use Rattle.source.specs.Seen.{seen}
+use Rattle.source.specs.declared.Point.{Point}
+use Rattle.source.specs.declared.Point.the-variants.{Is, Not}
+use Rattle.source.proofs.Points.{code-at, none-at, point-fits, point-less}
+use Rattle.source.proofs.Decoding.{code-one}
+use Rattle.names.specs.Names.{dialect, ascii-part, AsciiRun}
+use Rattle.names.specs.NamePart.{NamePart}
+use Rattle.names.specs.declared.classes.Names.{Names}
+use Rattle.names.proofs.ClassLaws.{start-low, part-low, sign-low}
+
+-- whether a character of the class q stands at i, by what the code tests
+module _ (q : ℕ → Bool) (s : List ℕ) (i : ℕ) where
+  pub none-past : length s ≤ i → char q bad-name (drop i s) ≡ err bad-name
+  unfolding char decode1
+  none-past h = rw (drop-end s i h)
+
+  module _ (p : Point) (a : p ≡ seen (decode1 (drop i s))) where
+    pub none-point : p ≡ Not → char q bad-name (drop i s) ≡ err bad-name
+    none-point b = char-none q bad-name (drop i s) (none-at s i p a b)
+
+    module _ (c k : ℕ) (b : p ≡ Is c k) (r : Bool) (e : r ≡ q c) where
+      pub none-class : r ≡ false → char q bad-name (drop i s) ≡ err bad-name
+      none-class n = char-not q bad-name (drop i s) c k (code-at s i c k p a b) (sym e ∙ n)
+
+      pub one-class : r ≡ true → char q bad-name (drop i s) ≡ ok k
+      one-class y = char-is q bad-name (drop i s) c k (code-at s i c k p a b) (sym e ∙ y)
+
+  -- the same at a byte below 128
+  module _ (r : Bool) (e : r ≡ q (getD s i 0)) (h : i < length s) (l : getD s i 0 < 128) where
+    pub none-low : r ≡ false → char q bad-name (drop i s) ≡ err bad-name
+    none-low = none-class (Is (getD s i 0) 1) (code-one s i h l) (getD s i 0) 1 refl r e
+
+    pub one-low : r ≡ true → char q bad-name (drop i s) ≡ ok 1
+    one-low = one-class (Is (getD s i 0) 1) (code-one s i h l) (getD s i 0) 1 refl r e
+
+-- a run of name characters, of which i is the next place
+module _ (D : Dialect) (s : List ℕ) (i W : ℕ) (inv : i + taken (parts D (drop i s)) ≡ W) where
+  pub parts-stop : char (D .part) bad-name (drop i s) ≡ err bad-name → i ≡ W
+  unfolding parts
+  parts-stop e = rw (chars-stop (D .part) bad-name (drop i s) e, add-zero) at inv
+
+  pub parts-go : (k : ℕ) → char (D .part) bad-name (drop i s) ≡ ok k → i + k + taken (parts D (drop (i + k) s)) ≡ W
+  parts-go k e =
+      let t : parts D (drop i s) ≡ past k (parts D (drop (i + k) s)) = unfold parts in (chars-turn (D .part) bad-name (drop i s) k e ∙ (rw drop-drop)) in
+      let n : taken (parts D (drop i s)) ≡ k + taken (parts D (drop (i + k) s)) = ap taken (t ∙ ap (past k) (parts-ok D (drop (i + k) s))) in
+      omega arith
+
+-- the ASCII loop, whatever the edition
+module _ (s : List ℕ) (at i : ℕ) (inv : (names : Names) → i + taken (parts (dialect names) (drop i s)) ≡ at + taken (parts (dialect names) (drop at s))) where
+  pub ascii-past : length s ≤ i → AsciiRun s at i
+  ascii-past h = record { among = inv; ends = λ names l. parts-stop (dialect names) s i _ (inv names) (none-past (dialect names .part) s i h) }
+
+  module _ (r : Bool) (e : r ≡ ascii-part (getD s i 0)) (h : i < length s) where
+    pub ascii-stop : r ≡ false → AsciiRun s at i
+    ascii-stop n =
+        record {
+          among = inv;
+          ends = λ names l. parts-stop (dialect names) s i _ (inv names) (none-low (dialect names .part) s i r (part-low names (getD s i 0) r l e) h l n);
+        }
+
+    pub ascii-go : r ≡ true → (names : Names) → i + 1 + taken (parts (dialect names) (drop (i + 1) s)) ≡ at + taken (parts (dialect names) (drop at s))
+    ascii-go y names =
+        let l : getD s i 0 < 128 = sign-low (getD s i 0) (sym e ∙ y) in
+        parts-go (dialect names) s i _ (inv names) 1 (one-low (dialect names .part) s i r (part-low names (getD s i 0) r l e) h l y)
+
+-- and what it leaves: nothing, an ASCII sign, or a byte to decode
+module _ (names : Names) (s : List ℕ) (at i : ℕ) (a : AsciiRun s at i) where
+  pub run-past : length s ≤ i → i ≡ at + taken (parts (dialect names) (drop at s))
+  run-past h = parts-stop (dialect names) s i _ (a .among names) (none-past (dialect names .part) s i h)
+
+  pub run-ends : getD s i 0 < 128 → i ≡ at + taken (parts (dialect names) (drop at s))
+  run-ends l = a .ends names l
+
+  pub run-on : (e : ℕ) → e ≡ i + taken (parts (dialect names) (drop i s)) → e ≡ at + taken (parts (dialect names) (drop at s))
+  run-on e f = f ∙ a .among names
+
+-- the name at a place, by its first character
+module _ (D : Dialect) (s : List ℕ) (at : ℕ) where
+  pub name-stop : char (D .start) bad-name (drop at s) ≡ err bad-name → at ≡ at + name-length D (drop at s)
+  unfolding name-length
+  name-stop e = rw (name-none D (drop at s) e, add-zero)
+
+  pub name-go : (k e : ℕ) → char (D .start) bad-name (drop at s) ≡ ok k → e ≡ at + k + taken (parts D (drop (at + k) s)) → e ≡ at + name-length D (drop at s)
+  unfolding name-length
+  name-go k e f g = g ∙ (rw (name-first D (drop at s) k f, drop-drop, parts-ok D (drop (at + k) s), add-assoc))
+
+-- the part that a name is
+module _ (D : Dialect) (s : List ℕ) (at : ℕ) where
+  part-is : (p : List ℕ) → p ≡ take (name-length D (drop at s)) (drop at s) → NamePart D (drop at s) p
+  part-is p e =
+      let n : length p ≡ name-length D (drop at s) = ap length e ∙ length-take (name-length D (drop at s)) (drop at s) ∙ min-eq-left (name-within D (drop at s)) in
+      record {
+        part = e;
+        name = λ h. subst (Name D) (sym e) (name-is-name D (drop at s) (λ z. h (n ∙ z)));
+        longest = λ u v f g. rw n (name-longest D (drop at s) u v f g);
+      }
+
+  pub part-past : length s < at → NamePart D (drop at s) (take 0 s)
+  part-past h = let g : length s ≤ at = omega arith in part-is (take 0 s) (rw (drop-end s at g, take-nil))
+
+  module _ (e : ℕ) (f : e ≡ at + name-length D (drop at s)) where
+    pub part-within : at ≤ length s → e ≤ length s
+    part-within h = let v = simp length-drop at (name-within D (drop at s)) in omega arith
+
+    pub part-at : NamePart D (drop at s) (take (e - at) (drop at s))
+    part-at = let z : e - at ≡ name-length D (drop at s) = omega arith in part-is (take (e - at) (drop at s)) (rw z)
+
+-- the number that a text has as a name, by where the name at its front ends
+module _ (D : Dialect) (w : List ℕ) (e : ℕ) (f : e ≡ 0 + name-length D (drop 0 w)) where
+  ends-at : (x : Result) → name D w ≡ x → e ≡ taken x
+  unfolding name-length
+  ends-at x g = f ∙ (rw (g, zero-add))
+
+  pub number-none : e ≡ 0 → number bad-name ≡ number-of (check-name D w)
+  unfolding check-name _>>_
+  number-none z = go (named D w)
+    where
+      go : Named D w → number bad-name ≡ number-of (check-name D w)
+      go (a-name k p g t) = absurd (omega (arith, ends-at (ok k) g))
+      go (no-name g n) = rw g
+
+  pub number-more : e < length w → number bad-name ≡ number-of (check-name D w)
+  unfolding check-name _>>_ at-end
+  number-more h = go (named D w)
+    where
+      go : Named D w → number bad-name ≡ number-of (check-name D w)
+      go (a-name k p g t) = let l : k < length w = omega (arith, ends-at (ok k) g) in rw (g, drop-at w k l)
+      go (no-name g n) = rw g
+
+  pub number-whole : (e ≡ 0 → ⊥) → length w ≤ e → 0 ≡ number-of (check-name D w)
+  unfolding check-name _>>_ at-end
+  number-whole some h = go (named D w)
+    where
+      go : Named D w → 0 ≡ number-of (check-name D w)
+      go (a-name k p g t) = let l : length w ≤ k = omega (arith, ends-at (ok k) g) in rw (g, drop-end w k l)
+      go (no-name g n) = absurd (some (ends-at (err bad-name) g))
+
+-- what the loops over name characters search, and what the calls around them do
+pub ruleset loops = (none-past, none-point, none-class, one-class, none-low, one-low, part-low, parts-stop, parts-go, point-fits, point-less, needs)
+
+pub ruleset asciis = (ascii-past, ascii-stop, ascii-go, run-past, run-ends, run-on, needs)
+
+pub ruleset firsts = (none-past, none-point, none-class, one-class, none-low, one-low, start-low, name-stop, name-go, point-fits, needs)
+
+pub ruleset whole = (part-past, part-within, part-at, number-none, number-more, number-whole, needs)

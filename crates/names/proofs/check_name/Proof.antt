@@ -1,0 +1,16 @@
+-- `names::check_name` meets its contract. `dialect` is opened: Appendix B's classes are the code's.
+-- Assumes nothing.
+use Rattle.names.specs.Names.{dialect}
+use Rattle.names.proofs.Calls.{calls}
+use Rattle.names.proofs.check_name.Statement.{statement}
+use Rattle.names.proofs.check_name.Tie as tie
+
+pub check-name-spec : {M : Type 1} → statement M
+unfolding dialect
+check-name-spec =
+    tie.close
+    (tie.spec
+    (λ c κs. search calls)  -- admit-requires
+    (λ c. search calls)  -- returns
+    (λ c κs. search calls)  -- name-number-requires
+    (λ c. search calls))  -- returns-2

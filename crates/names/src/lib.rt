@@ -1,0 +1,141 @@
+// Names: the part of wellformed.rs that reads them, parse_name and the loop of parse_nmtoken of dtd.rs.
+mod classes;
+mod tables;
+
+pub use classes::Names;
+use classes::ascii_name_char;
+use classes::ascii_name_start;
+pub use classes::is_name_char;
+pub use classes::is_name_start_char;
+use error::ACCEPTED;
+use error::BAD_NAME;
+use source::Point;
+use source::admit;
+use source::code_point;
+ghost use mathlib.Core.Path.{_≡_};
+ghost use Prim.Native.Nat.{_+_};
+ghost use lib.ListN.{drop};
+ghost use Rattle.spec.specs.Grammar.Names.{Name};
+ghost use Rattle.spec.specs.Promises.{Checks};
+ghost use Rattle.spec.specs.Grammar.AppendixB.{appendix-B};
+ghost use Rattle.spec.specs.Reading.Readers.{number-of, taken};
+ghost use Rattle.spec.specs.Reading.Wellformed.{parts, name-length, check-name};
+ghost use Rattle.names.specs.Names.{dialect, AsciiRun};
+ghost use Rattle.names.specs.NamePart.{NamePart};
+
+// The name characters below 128 from `at` on: up to their end, or up to a byte that wants decoding. Most names are ASCII, and this
+// loop decodes nothing.
+fn ascii_end(s: &[u8], at: usize) -> usize
+    ensures { λ r. ⌜ AsciiRun (now (s .entry)) at r ⌝ }
+{
+    let mut i = at;
+    while i < s.len() {
+        if ascii_name_char(s[i]) {
+            i += 1;
+        } else {
+            return i;
+        }
+    }
+    i
+}
+
+// The end of the name characters from `at` on, decoded where a byte is 128 or more.
+fn decoded_end(s: &[u8], at: usize, names: Names) -> usize
+    ensures { λ r. ⌜ r ≡ at + taken (parts (dialect names) (drop at (now (s .entry)))) ⌝ }
+{
+    let mut i = at;
+    while i < s.len() {
+        let b = s[i];
+        if b < 128 {
+            if ascii_name_char(b) {
+                i += 1;
+                continue;
+            }
+            return i;
+        }
+        let p = code_point(s, i);
+        let Point::Is(c, n) = p else {
+            return i;
+        };
+        if is_name_char(names, c) {
+            i += n;
+        } else {
+            return i;
+        }
+    }
+    i
+}
+
+// The end of the name characters from `at` on, the (NameChar)* of [5] Name and [7] Nmtoken.
+pub fn name_chars_end(s: &[u8], at: usize, names: Names) -> usize
+    ensures { λ r. ⌜ r ≡ at + taken (parts (dialect names) (drop at (now (s .entry)))) ⌝ }
+{
+    let i = ascii_end(s, at);
+    if s.len() <= i {
+        return i;
+    }
+    if s[i] < 128 {
+        return i;
+    }
+    decoded_end(s, i, names)
+}
+
+// The end of the name at `at`, [5] Name: `at` itself where none begins.
+pub fn name_end(s: &[u8], at: usize, names: Names) -> usize
+    ensures { λ r. ⌜ r ≡ at + name-length (dialect names) (drop at (now (s .entry))) ⌝ }
+{
+    if s.len() <= at {
+        return at;
+    }
+    let b = s[at];
+    if b < 128 {
+        if ascii_name_start(b) {
+            return name_chars_end(s, at + 1, names);
+        }
+        return at;
+    }
+    let p = code_point(s, at);
+    let Point::Is(c, n) = p else {
+        return at;
+    };
+    if is_name_start_char(names, c) {
+        return name_chars_end(s, at + n, names);
+    }
+    at
+}
+
+// The name at `at`, a part of the text: empty where none begins.
+pub fn parse_name(s: &[u8], at: usize, names: Names) -> &[u8]
+    ensures { λ r. ⌜ NamePart (dialect names) (drop at (now (s .entry))) (now r) ⌝ }
+{
+    if s.len() < at {
+        return &s[..0];
+    }
+    let e = name_end(s, at, names);
+    &s[at..e]
+}
+
+// check_name on all bytes, [5] Name: the number without the two that stand in front of every public call.
+fn name_number(text: &[u8], names: Names) -> u8
+    ensures { λ r. ⌜ r ≡ number-of (check-name (dialect names) (now (text .entry))) ⌝ }
+{
+    let e = name_end(text, 0, names);
+    if e == 0 {
+        return BAD_NAME;
+    }
+    if e < text.len() {
+        return BAD_NAME;
+    }
+    ACCEPTED
+}
+
+// check_name of the Rust: the whole text is a Name of Appendix B.
+pub fn check_name(text: &[u8]) -> u8
+    ensures { λ r. ⌜ Checks (check-name appendix-B) (Name appendix-B) (now (text .entry)) r ⌝ }
+{
+    let n = admit(text);
+    if n != ACCEPTED {
+        return n;
+    }
+    name_number(text, Names::AppendixB)
+}
