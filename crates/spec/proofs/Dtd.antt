@@ -13,3 +13,6 @@ pub mod Subset
 pub mod Doctype
 pub mod Markup
 pub mod Texts
+pub mod DepthAlike
+pub mod DepthReaders
+pub mod Depth
