@@ -9,11 +9,12 @@ use native.Mathlib.Omega.{arith}
 use borrow.Author.Needs.{needs}
 use lib.ListN.{length, getD, drop}
 use lib.Seq.{drop-drop}
+use Rattle.spec.specs.Basics.{pick}
 use Rattle.spec.specs.Reading.Refusals.{Refusal, number}
-use Rattle.spec.specs.Reading.Readers.{Result, ok, err, Reader, past, _>>_, nothing, refuse, choose, throughout}
+use Rattle.spec.specs.Reading.Readers.{Result, ok, err, Reader, past, _>>_, nothing, refuse, starts, choose, word-of, throughout}
 use Rattle.spec.proofs.Base.Places.{drop-at, drop-end}
 use Rattle.spec.proofs.Base.Loops.{Somes, through-end, through-turn, through-refused}
-use Rattle.error.specs.Read.{placed, read}
+use Rattle.error.specs.Read.{placed, read, eaten}
 use Rattle.error.specs.declared.Answer.{Answer}
 use Rattle.error.specs.declared.Answer.the-variants.{At, No}
 
@@ -80,6 +81,43 @@ pub took-nothing : (s : List ℕ) (at : ℕ) → At at ≡ read nothing s at
 unfolding read nothing
 took-nothing s at = rw add-zero
 
+-- A word: r is what eat_str answered at a place, or b whether the word stands there.
+module _ (kw : List ℕ) (m : ℕ) (s : List ℕ) (at : ℕ) (r : Answer) (a : r ≡ eaten kw m s at) where
+  pub ate : (n : Refusal) → m ≡ number n → r ≡ read (word-of kw n) s at
+  unfolding read eaten word-of
+  ate n e = go (starts kw (drop at s)) a
+    where
+      go : (t : Bool) → r ≡ pick t (At (at + length kw)) (No m) → r ≡ placed at (pick t (ok (length kw)) (err n))
+      go true f = f
+      go false f = f ∙ ap No e
+
+  stands : (i : ℕ) → r ≡ At i → (starts kw (drop at s) ≡ true) × (i ≡ at + length kw)
+  unfolding eaten
+  stands i e = go (starts kw (drop at s)) a
+    where
+      go : (t : Bool) → r ≡ pick t (At (at + length kw)) (No m) → (t ≡ true) × (i ≡ at + length kw)
+      go true f = (refl, At-inj (sym e ∙ f))
+      go false f = absurd (At≢No (sym e ∙ f))
+
+  -- where it stands, what follows it reads on; where not, the other reader
+  pub ate-then : (A B : Reader) (n : Refusal) (i : ℕ) (q : Answer) → r ≡ At i → q ≡ read A s i → q ≡ read (choose (starts kw) (word-of kw n >> A) B) s at
+  ate-then A B n i q e b =
+      let (f, g) = stands i e in
+      choose-yes (starts kw) (word-of kw n >> A) B s at true q (sym f) refl (seq-at (word-of kw n) A s at i (At i) q (unfold read word-of in (rw (f, g))) refl b)
+
+  pub ate-only : (B : Reader) (n : Refusal) (i : ℕ) → r ≡ At i → At i ≡ read (choose (starts kw) (word-of kw n) B) s at
+  ate-only B n i e =
+      let (f, g) = stands i e in
+      choose-yes (starts kw) (word-of kw n) B s at true (At i) (sym f) refl (unfold read word-of in (rw (f, g)))
+
+  pub ate-not : (A B : Reader) (k : ℕ) (q : Answer) → r ≡ No k → q ≡ read B s at → q ≡ read (choose (starts kw) A B) s at
+  unfolding eaten
+  ate-not A B k q e b = go (starts kw (drop at s)) refl a
+    where
+      go : (t : Bool) → starts kw (drop at s) ≡ t → r ≡ pick t (At (at + length kw)) (No m) → q ≡ read (choose (starts kw) A B) s at
+      go true f g = absurd (At≢No (sym g ∙ e))
+      go false f g = choose-no (starts kw) A B s at false q (sym f) refl b
+
 -- A reader again and again to the text's end. The invariant: the answer from i on is the whole answer W.
 module _ (R : Reader) (s : List ℕ) (i : ℕ) (W : Answer) (inv : read (throughout R) s i ≡ W) where
   pub walk-end : length s ≤ i → At i ≡ W
@@ -108,7 +146,7 @@ walk-less R s i j r some h a e =
     omega arith
 
 -- what a chain of readers searches
-pub ruleset chain = (seq-no, seq-at, choose-yes, choose-no, refused, took-nothing, needs)
+pub ruleset chain = (seq-no, seq-at, choose-yes, choose-no, refused, took-nothing, ate, ate-then, ate-only, ate-not, needs)
 
 -- what a loop to the text's end searches
 pub ruleset walk = (walk-end, walk-no, walk-go, walk-less, needs)

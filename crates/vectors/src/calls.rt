@@ -1,0 +1,46 @@
+// The calls that are known.
+use crate::bytes;
+use crate::reply::Reply;
+use names::Names;
+
+// What the call named `word` answers on `text`. A new call is one more `if` here, or in `number` where
+// it answers by a number alone.
+pub fn reply(word: &[u8], text: &[u8]) -> Reply {
+    if bytes::same(word, b"utf8") {
+        let verdict = source::is_utf8(text);
+        return Reply::Verdict(verdict.number, verdict.yes);
+    }
+    if bytes::same(word, b"name_part") {
+        return name_part(text);
+    }
+    number(word, text)
+}
+
+fn number(word: &[u8], text: &[u8]) -> Reply {
+    if bytes::same(word, b"check_chars") {
+        return Reply::Number(wellformed::check_chars(text));
+    }
+    if bytes::same(word, b"check_text") {
+        return Reply::Number(wellformed::check_text(text));
+    }
+    if bytes::same(word, b"check_attr_value") {
+        return Reply::Number(wellformed::check_attr_value(text));
+    }
+    if bytes::same(word, b"check_char_refs") {
+        return Reply::Number(wellformed::check_char_refs(text));
+    }
+    if bytes::same(word, b"check_name") {
+        return Reply::Number(names::check_name(text));
+    }
+    Reply::Unknown
+}
+
+// The length of the name that `text` begins with, where the text may be read at all.
+fn name_part(text: &[u8]) -> Reply {
+    let number = source::admit(text);
+    if number != 0 {
+        return Reply::Number(number);
+    }
+    let name = names::parse_name(text, 0, Names::AppendixB);
+    Reply::Measure(b'l', name.len())
+}

@@ -1,0 +1,31 @@
+// What a call answers, and how an answer is written in a vector. A new form of answer is one more
+// variant here and one more arm of `spell`.
+use crate::bytes;
+
+pub enum Reply {
+    // the call is not known
+    Unknown,
+    // a number
+    Number(u8),
+    // a number, and `y` or `n`
+    Verdict(u8, bool),
+    // a letter and a number of bytes, as `l5`
+    Measure(u8, usize),
+}
+
+// Writes the answer at the start of `out`, and answers how many bytes it takes: none for a call that
+// is not known.
+pub fn spell(reply: Reply, out: &mut [u8]) -> usize {
+    match reply {
+        Reply::Unknown => 0,
+        Reply::Number(number) => bytes::decimal(out, 0, number as u64),
+        Reply::Verdict(number, yes) => {
+            let at = bytes::decimal(out, 0, number as u64);
+            bytes::put(out, at, if yes { b'y' } else { b'n' })
+        }
+        Reply::Measure(letter, size) => {
+            let at = bytes::put(out, 0, letter);
+            bytes::decimal(out, at, size as u64)
+        }
+    }
+}

@@ -1,0 +1,8 @@
+pub mod Words
+pub mod Runs
+pub mod Steps
+pub mod Bytes
+pub mod Digits
+pub mod CharRefs
+pub mod Checks
+pub mod Agreed

@@ -1,0 +1,17 @@
+-- `wellformed::references::add_digit` meets its contract.
+-- Assumes nothing.
+use Rattle.wellformed.proofs.Digits.{digit-sums}
+use Rattle.wellformed.proofs.references.add_digit.Statement.{statement}
+use Rattle.wellformed.proofs.references.add_digit.Tie as tie
+
+pub add-digit-spec : {M : Type 1} → statement M
+add-digit-spec =
+    tie.close
+    (tie.spec
+    (λ c. search digit-sums)  -- returns
+    (λ c. search digit-sums)  -- mul-result
+    (λ c. search digit-sums)  -- add-result
+    (λ c. search digit-sums)  -- returns-2
+    (λ c. search digit-sums)  -- mul-result-2
+    (λ c. search digit-sums)  -- add-result-2
+    (λ c. search digit-sums))  -- returns-3

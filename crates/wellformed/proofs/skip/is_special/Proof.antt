@@ -1,0 +1,12 @@
+-- `wellformed::skip::is_special` meets its contract.
+-- Assumes nothing.
+use Rattle.wellformed.proofs.Bytes.{bytes}
+use Rattle.wellformed.proofs.skip.is_special.Statement.{statement}
+use Rattle.wellformed.proofs.skip.is_special.Tie as tie
+
+pub is-special-spec : {M : Type 1} → statement M
+is-special-spec =
+    tie.close
+    (tie.spec
+    (λ c κs. search bytes)  -- is-suspect-requires
+    (λ c. search bytes))  -- returns

@@ -1,0 +1,107 @@
+// Character data and attribute values: check_text and check_attr_value of wellformed.rs.
+use crate::chars::check_suspect_byte;
+use crate::keywords::at_keyword;
+use crate::numbers::number;
+use crate::references::check_char_ref_at;
+use crate::skip::CALM;
+use crate::skip::is_special;
+use crate::skip::skip_blocks;
+use error::Answer;
+ghost use mathlib.Core.Path.{_≡_};
+ghost use Rattle.spec.specs.Reading.Readers.{number-of};
+ghost use Rattle.spec.specs.Reading.Wellformed.{text-step, check-text, attr-step, check-attr-value};
+ghost use Rattle.error.specs.Read.{read};
+
+// CharData has no "]]>" (production 14). It is refused where it begins; the Rust sees it where it ends, and gives the same number.
+fn text_step(s: &[u8], i: usize) -> Answer
+    ensures { λ r. ⌜ r ≡ read text-step (now (s .entry)) i ⌝ }
+{
+    if at_keyword(s, i, b"]]>") {
+        return Answer::No(error::SECTION_END);
+    }
+    if at_keyword(s, i, b"&#") {
+        return check_char_ref_at(s, i);
+    }
+    check_suspect_byte(s, i)
+}
+
+// AttValue has no '<' (production 10).
+fn attr_step(s: &[u8], i: usize) -> Answer
+    ensures { λ r. ⌜ r ≡ read attr-step (now (s .entry)) i ⌝ }
+{
+    if at_keyword(s, i, b"<") {
+        return Answer::No(error::LESS_THAN);
+    }
+    if at_keyword(s, i, b"&#") {
+        return check_char_ref_at(s, i);
+    }
+    check_suspect_byte(s, i)
+}
+
+fn walk_text(text: &[u8]) -> Answer
+    ensures { λ r. ⌜ r ≡ read check-text (now (text .entry)) 0 ⌝ }
+{
+    let mut i: usize = 0;
+    let mut calm: usize = 0;
+    while i < text.len() {
+        if is_special(b']', text[i]) {
+            let r = text_step(text, i);
+            let Answer::At(j) = r else {
+                return r;
+            };
+            i = j;
+            calm = 0;
+            continue;
+        }
+        i += 1;
+        if calm < CALM {
+            calm += 1;
+            continue;
+        }
+        i = skip_blocks(text, i, b']');
+        calm = 0;
+    }
+    Answer::At(i)
+}
+
+fn walk_attr_value(text: &[u8]) -> Answer
+    ensures { λ r. ⌜ r ≡ read check-attr-value (now (text .entry)) 0 ⌝ }
+{
+    let mut i: usize = 0;
+    let mut calm: usize = 0;
+    while i < text.len() {
+        if is_special(b'<', text[i]) {
+            let r = attr_step(text, i);
+            let Answer::At(j) = r else {
+                return r;
+            };
+            i = j;
+            calm = 0;
+            continue;
+        }
+        i += 1;
+        if calm < CALM {
+            calm += 1;
+            continue;
+        }
+        i = skip_blocks(text, i, b'<');
+        calm = 0;
+    }
+    Answer::At(i)
+}
+
+// check_text on any bytes, without the two numbers that come first.
+pub fn text_number(text: &[u8]) -> u8
+    ensures { λ r. ⌜ r ≡ number-of (check-text (now (text .entry))) ⌝ }
+{
+    let r = walk_text(text);
+    number(r)
+}
+
+// check_attr_value on any bytes, without the two numbers that come first.
+pub fn attr_value_number(text: &[u8]) -> u8
+    ensures { λ r. ⌜ r ≡ number-of (check-attr-value (now (text .entry))) ⌝ }
+{
+    let r = walk_attr_value(text);
+    number(r)
+}
