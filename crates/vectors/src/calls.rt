@@ -38,7 +38,7 @@ fn number(word: &[u8], text: &[u8]) -> Reply {
 // The length of the name that `text` begins with, where the text may be read at all.
 fn name_part(text: &[u8]) -> Reply {
     let number = source::admit(text);
-    if number != 0 {
+    if number != error::ACCEPTED {
         return Reply::Number(number);
     }
     let name = names::parse_name(text, 0, Names::AppendixB);
