@@ -10,6 +10,7 @@ pub mod Entities
 pub mod Attlists
 pub mod Tame
 pub mod Subset
+pub mod Items
 pub mod Doctype
 pub mod Markup
 pub mod Texts
