@@ -5,7 +5,7 @@
 
 ORACLE is the unchanged Rust behind a driver that fills the second column (docs/DIFFERENCES.md says which). The texts do not depend on
 it: the ends of every range of production 2 and of Appendix B and their neighbours, each byte sequence that RFC 3629 begins or breaks
-off, references around every limit, and texts put together at random from a fixed seed.
+off, references around every limit, and texts and DOCTYPEs put together at random from a fixed seed.
 """
 import random
 import re
@@ -97,6 +97,118 @@ def limits():
         line(call, f"262378+46*{LIMIT - 4}+3b")
 
 
+# DOCTYPEs: texts derived from a small grammar, and the same with a piece of them damaged.
+NAMES = ["a", "b:c", "_x", "q-1", "\u00e9t\u00e9", "\u0394", "\u4e2d"]
+BAD_NAMES = ["", "1a", "-", "\u0220", "a b", "%p", "!"]
+SPACES = ["", " ", "\t", "\r\n", "  "]
+VALUES = ["", "x", "&#65;", "&#x4A;", "&#0;", "&#;", "&amp;", "%", "%p;", "<", ">", "]", "it's", "--", "&#4294967361;"]
+SIGNS = ["", " ", "<", ">", "[", "]", "(", ")", "|", ",", "*", "#", "%", ";", '"', "'", "&", "--", "-->", "?>", "<!", "<![", "xml", "\x01", "\u00e9"]
+
+
+class Doctypes:
+    def __init__(self, seed):
+        self.r = random.Random(seed)
+
+    def one(self, *options):
+        return self.r.choice(options)
+
+    def name(self):
+        return self.r.choice(NAMES) if self.r.random() < 0.93 else self.r.choice(BAD_NAMES)
+
+    def s(self):
+        return self.r.choice(SPACES)
+
+    def must_s(self):
+        return self.r.choice(SPACES[1:]) if self.r.random() < 0.96 else ""
+
+    def literal(self, values=VALUES):
+        q = self.one('"', "'")
+        return q + self.r.choice(values) + (q if self.r.random() < 0.97 else "")
+
+    def external(self):
+        system = "SYSTEM" + self.must_s() + self.literal()
+        public = "PUBLIC" + self.must_s() + self.literal(["", "-//A//B", "it's", "^", "a%"]) + self.must_s() + self.literal()
+        return self.one(system, public, system.lower())
+
+    def particle(self, depth):
+        inner = self.name() if depth == 0 or self.r.random() < 0.6 else self.group(depth - 1)
+        return inner + self.one("", "", "?", "*", "+")
+
+    def group(self, depth):
+        sign = self.one("|", ",")
+        parts = [self.particle(depth) for _ in range(self.r.randint(1, 3))]
+        text = parts[0]
+        for part in parts[1:]:
+            text += self.s() + (sign if self.r.random() < 0.95 else self.one("|", ",", " ")) + self.s() + part
+        return "(" + self.s() + text + self.s() + ")"
+
+    def mixed(self):
+        names = "".join(self.s() + "|" + self.s() + self.name() for _ in range(self.r.randint(0, 2)))
+        return "(" + self.s() + "#PCDATA" + names + self.s() + self.one(")", ")*")
+
+    def element(self):
+        content = self.one("EMPTY", "ANY", self.mixed(), self.group(3) + self.one("", "*"), "EMPTYX")
+        return "<!ELEMENT" + self.must_s() + self.name() + self.must_s() + content + self.s() + ">"
+
+    def listed(self):
+        return "(" + self.s() + (self.s() + "|" + self.s()).join(self.name() for _ in range(self.r.randint(1, 3))) + self.s() + ")"
+
+    def attlist(self):
+        text = "<!ATTLIST" + self.must_s() + self.name()
+        for _ in range(self.r.randint(0, 2)):
+            kind = self.one("CDATA", "ID", "IDREF", "IDREFS", "ENTITY", "ENTITIES", "NMTOKEN", "NMTOKENS", self.listed(), "NOTATION" + self.must_s() + self.listed(), "IDS")
+            default = self.one("#REQUIRED", "#IMPLIED", self.literal(), "#FIXED" + self.must_s() + self.literal())
+            text += self.must_s() + self.name() + self.must_s() + kind + self.must_s() + default
+        return text + self.s() + ">"
+
+    def entity(self):
+        value = self.one(self.literal(), self.external(), self.external() + self.must_s() + "NDATA" + self.must_s() + self.name())
+        percent = self.one("", "", "%" + self.must_s())
+        return "<!ENTITY" + self.must_s() + percent + self.name() + self.must_s() + value + self.s() + ">"
+
+    def notation(self):
+        value = self.one(self.external(), "PUBLIC" + self.must_s() + self.literal())
+        return "<!NOTATION" + self.must_s() + self.name() + self.must_s() + value + self.s() + ">"
+
+    def instruction(self):
+        return "<?" + self.one(self.name(), "xml", "XmL", "xml2") + self.one("", " ", " it's ?", " a]b") + self.one("?>", "?>", ">")
+
+    def comment(self):
+        return "<!--" + self.one("", "x", "-", "x-", "--", "]", "<!--", "'") + "-->"
+
+    def reference(self):
+        return "%" + self.name() + self.one(";", ";", "")
+
+    def doctype(self):
+        text = self.s() + self.name() + (self.must_s() + self.external() if self.r.random() < 0.3 else "") + self.s()
+        if self.r.random() < 0.9:
+            parts = [self.element, self.attlist, self.entity, self.notation, self.instruction, self.comment, self.reference]
+            weights = [5, 5, 4, 3, 2, 2, 1]
+            body = "".join(self.r.choices(parts, weights)[0]() + self.s() for _ in range(self.r.randint(0, 3)))
+            text += "[" + self.s() + body + "]" + self.s()
+        return text
+
+    def damaged(self, text):
+        if not text or self.r.random() < 0.5:
+            return text
+        at = self.r.randrange(len(text))
+        if self.r.random() < 0.5:
+            return text[:at] + text[at + 1:]
+        return text[:at] + self.r.choice(SIGNS) + text[at + self.r.randint(0, 1):]
+
+
+def doctypes(seed, count):
+    made = Doctypes(seed)
+    for _ in range(count):
+        line("check_doctype", made.damaged(made.doctype()).encode())
+    for depth in (1, 2, 63, 64, 65, 66, 400000):
+        line("check_doctype", f"{b'a[<!ELEMENT b '.hex()}+28*{depth}+63+29*{depth}+3e5d")
+    for count in (64, 65, 1000):
+        line("check_doctype", f"{b'a[<!ELEMENT b (c'.hex()}+{b',(c)'.hex()}*{count}+293e5d")
+    for size in (LIMIT - 2, LIMIT - 1, LIMIT):
+        line("check_doctype", f"615b+20*{size - 1}+5d")
+
+
 def main():
     print("# Made by tests/vectors/texts.py and answered by the unchanged Rust (docs/DIFFERENCES.md, \"Compared by running\").")
     characters()
@@ -105,6 +217,7 @@ def main():
     references()
     mixtures(20261115, 700)
     limits()
+    doctypes(20261116, 4000)
 
 
 if __name__ == "__main__":

@@ -4,3 +4,4 @@ pub mod Agreement
 pub mod Wellformed
 pub mod Dtd
 pub mod Rows
+pub mod Division

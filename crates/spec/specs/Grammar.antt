@@ -9,3 +9,4 @@ pub mod Literals
 pub mod ContentModels
 pub mod Declarations
 pub mod Doctype
+pub mod Division

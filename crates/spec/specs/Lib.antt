@@ -1,5 +1,6 @@
 pub mod Basics
 pub mod Grammar
 pub mod Reading
+pub mod Premise
 pub mod Promises
 pub mod Rows

@@ -5,3 +5,4 @@ pub mod Readers
 pub mod Source
 pub mod Wellformed
 pub mod Dtd
+pub mod Scan

@@ -25,11 +25,11 @@ then-same r q q' s b w h = go (r (b ∷ w)) refl
     go (ok k) f = let z : 0 < k = s .some b w k f in ap (past k) (h (drop k (b ∷ w)) (omega (arith, length-drop k (b ∷ w))))
 
 module _ (D : Dialect) where
-  some-reference : Somes (parse-pe-reference D)
+  pub some-reference : Somes (parse-pe-reference D)
   unfolding parse-pe-reference
   some-reference = some-then _ _ (some-word "%" unexpected (omega arith))
 
-  some-markup : (pe : Bool) → Somes (parse-markup-decl D pe)
+  pub some-markup : (pe : Bool) → Somes (parse-markup-decl D pe)
   unfolding parse-markup-decl parse-pi parse-comment
   some-markup pe =
       some-on "<?" _ _ (some-then _ _ (some-word "<?" unexpected (omega arith)))

@@ -1,4 +1,4 @@
--- The internal parse-internal-subset, over any reader of its declarations. Assumes nothing.
+-- The internal subset, over any reader of its declarations. Assumes nothing.
 use mathlib.Core.Bool.{Bool, true, false, _&&_}
 use mathlib.Core.List.{List, [], _∷_, _++_, append-assoc, append-nil}
 use mathlib.Core.Path.{_≡_, refl, sym, _∙_, ap, subst}
@@ -51,7 +51,7 @@ module _ (D : Dialect) (A : AsciiNames D) (M : Bool → Lang) (reads-markup : (p
   unfolding parse-pe-reference PEReference
   pe-reads = seq (wd "%" unexpected tt) sub-any (seq (weaken (by-signs tt) sub-refl (name-reads D A)) sub-refl (wd ";" unexpected tt))
 
-  -- what is left of a parse-internal-subset, up to its ']'
+  -- what is left of a subset, up to its ']'
   pub data Items : Bool → List ℕ → Type 0 where
     close : {pe : Bool} {w : List ℕ} → (S? · lit "]") w → Items pe w
     refer : {pe : Bool} {w : List ℕ} (x y z : List ℕ) → w ≡ x ++ (y ++ z) → S? x → PEReference D y → Items true z → Items pe w

@@ -10,7 +10,7 @@ use Rattle.spec.specs.Grammar.Languages.{ascii, one-of, none-of}
 use Rattle.spec.specs.Grammar.Characters.{space}
 use Rattle.spec.specs.Grammar.Literals.{pubid-char}
 use Rattle.spec.specs.Grammar.Names.{Dialect}
-use Rattle.spec.specs.Reading.Refusals.{no-space, bad-name, has-colon, no-literal, unterminated, unexpected, trailing, bad-pubid, reserved-target, double-hyphen, bad-connector, less-than, too-deep}
+use Rattle.spec.specs.Reading.Refusals.{no-space, bad-name, has-colon, no-literal, unterminated, unexpected, trailing, bad-pubid, reserved-target, double-hyphen, bad-connector, less-than}
 use Rattle.spec.specs.Reading.Readers.{Result, ok, err, Reader, on-ok, past, _>>_, nothing, refuse, at-end, starts, choose, on, word, run, while, required, begins, char, contains, up-to}
 use Rattle.spec.specs.Reading.Wellformed.{check-char-refs, parts, name, check-name}
 

@@ -1,0 +1,359 @@
+-- Parts of a text that a scan passes: what it finds after them is what it would find there alone. Assumes nothing.
+use mathlib.Core.Logic
+use mathlib.Core.Bool.{Bool, true, false, _&&_, _||_, not, true≢false}
+use mathlib.Core.List.{List, [], _∷_, _++_, append-assoc}
+use mathlib.Core.Logic.{_⊎_}
+use mathlib.Core.Path.{_≡_, refl, sym, _∙_, ap, subst}
+use Prim.Native.Nat.{ℕ, zero, suc, _+_, _-_, _≤_, _<_}
+use Prim.Native.String.{String}
+use native.Mathlib.Omega.{arith}
+use lib.Dec.{T, ltb, eqb}
+use lib.ListN.{length, take, drop, length-append}
+use lib.Seq.{take-at, drop-append-seam}
+use Rattle.spec.specs.Basics.{pick}
+use Rattle.spec.specs.Grammar.Declarations.{PI, Comment, Delimited, Unread, declared}
+use Rattle.spec.specs.Grammar.Division.{Kind, element, attlist, entity, notation, instruction, comment, reference, entry-of, Front}
+use Rattle.spec.specs.Grammar.Languages.{Lang, lit, ascii, Ch, _·_, _∣_, inl, inr, Star, end, more, one-of, none-of}
+use Rattle.spec.specs.Grammar.Literals.{SystemLiteral}
+use Rattle.spec.specs.Grammar.Names.{Dialect, PEReference}
+use Rattle.spec.specs.Grammar.Utf8.{encode}
+use Rattle.spec.specs.Premise.{quiet, bare, premised}
+use Rattle.spec.specs.Reading.Dtd.{has-pe-reference}
+use Rattle.spec.specs.Reading.Readers.{starts, contains, before}
+use Rattle.spec.specs.Reading.Scan.{Place, at, nowhere, later, subset-open, subset-end}
+use Rattle.spec.proofs.Agreement.Tame.{Tame, Within, plain-bytes, within-cat, within-either, within-lit, within-none, within-s, within-s?, within-name, within-element}
+use Rattle.spec.proofs.Agreement.Words.{contains-at}
+use Rattle.spec.proofs.Base.Tests.{T→true, decide, leb-true, leb-false, eqb-yes, eqb-no, and-right}
+use Rattle.spec.proofs.Characters.Bytes.{all-high, high-head, high-tail, high-encode, avoids, class-avoids}
+use Rattle.spec.proofs.Characters.Utf8.{encode-1}
+use Rattle.spec.proofs.Division.Parts.{Filling, last, next, Premise}
+use Rattle.spec.proofs.Division.Quoting.{paired, quoting}
+use Rattle.spec.proofs.Dtd.Bodies.{del, delimited-del, refers-complete}
+use Rattle.spec.proofs.Dtd.Comments.{twice, no-twice, first-close}
+use Rattle.spec.proofs.Dtd.Tame.{within-external, within-attlist, within-entity, within-notation}
+use Rattle.spec.proofs.Wellformed.Names.{AsciiNames}
+
+pub later-suc : (n : ℕ) (p : Place) → later 1 (later n p) ≡ later (suc n) p
+later-suc n (at i) = let e : 1 + (n + i) ≡ suc n + i = omega arith in ap at e
+later-suc n nowhere = refl
+
+pub later-later : (m n : ℕ) (p : Place) → later m (later n p) ≡ later (m + n) p
+later-later m n (at i) = let e : m + (n + i) ≡ m + n + i = omega arith in ap at e
+later-later m n nowhere = refl
+
+pub later-zero : (p : Place) → p ≡ later 0 p
+later-zero (at i) = let e : i ≡ 0 + i = omega arith in ap at e
+later-zero nowhere = refl
+
+abbrev pub Clear : (List ℕ → Place) → List ℕ → Type 0
+Clear f x = (r : List ℕ) → f (x ++ r) ≡ later (length x) (f r)
+
+pub clear-append : (f : List ℕ → Place) (x y : List ℕ) → Clear f x → Clear f y → Clear f (x ++ y)
+clear-append f x y a b r =
+    ap f (append-assoc x y r) ∙ a (y ++ r) ∙ ap (later (length x)) (b r) ∙ later-later (length x) (length y) (f r)
+    ∙ ap (λ (n : ℕ). later n (f r)) (sym (length-append x y))
+
+-- a scan that passes single signs and literals
+pub record Passes (f : List ℕ → Place) : Type 0 where
+  pub plain : (b : ℕ) (r : List ℕ) → T (none-of "\"'<>[]" b) → f (b ∷ r) ≡ later 1 (f r)
+  pub double : (x r : List ℕ) → avoids 34 x ≡ true → f (34 ∷ (x ++ (34 ∷ r))) ≡ later (suc (length x + 1)) (f r)
+  pub single : (x r : List ℕ) → avoids 39 x ≡ true → f (39 ∷ (x ++ (39 ∷ r))) ≡ later (suc (length x + 1)) (f r)
+
+module _ {f : List ℕ → Place} (P : Passes f) where
+  clear-cons : (b : ℕ) (x : List ℕ) → T (none-of "\"'<>[]" b) → Clear f x → Clear f (b ∷ x)
+  clear-cons b x t c r = P .plain b (x ++ r) t ∙ ap (later 1) (c r) ∙ later-suc (length x) (f r)
+
+  clear-none : Clear f []
+  clear-none r = later-zero (f r)
+
+  clear-high : (x : List ℕ) → T (all-high x) → Clear f x
+  clear-high [] h = clear-none
+  clear-high (b ∷ x) h =
+      let g : 128 ≤ b = high-head b x h in
+      clear-cons b x
+      (rw (eqb-no b 34 (λ e. omega arith), eqb-no b 39 (λ e. omega arith), eqb-no b 60 (λ e. omega arith), eqb-no b 62 (λ e. omega arith), eqb-no b 91 (λ e. omega arith), eqb-no b 93 (λ e. omega arith)) tt)
+      (clear-high x (high-tail b x h))
+
+  clear-ch : (x : List ℕ) → Ch (none-of "\"'<>[]") x → Clear f x
+  clear-ch x c = subst (Clear f) (sym (c .bytes)) (go (decide (ltb (c .char) 128)))
+    where
+      go : (ltb (c .char) 128 ≡ true) ⊎ (ltb (c .char) 128 ≡ false) → Clear f (encode (c .char))
+      go (Logic.inl t) = subst (Clear f) (sym (encode-1 (c .char) (leb-true (suc (c .char)) 128 t))) (clear-cons (c .char) [] (c .in-class) clear-none)
+      go (Logic.inr t) = let g : 128 < suc (c .char) = leb-false (suc (c .char)) 128 t in clear-high (encode (c .char)) (high-encode (c .char) (omega arith))
+
+  clear-literal : (x : List ℕ) → SystemLiteral x → Clear f x
+  unfolding SystemLiteral
+  clear-literal x (inl l) r =
+      let d : List ℕ = l .second .left in
+      let e : x ≡ 34 ∷ (d ++ (34 ∷ [])) = l .split ∙ (λ i. l .first i ++ (l .second .split ∙ ap (λ (z : List ℕ). d ++ z) (l .second .second)) i) in
+      ap (λ (z : List ℕ). f (z ++ r)) e ∙ ap (λ (z : List ℕ). f (34 ∷ z)) (append-assoc d (34 ∷ []) r)
+      ∙ P .double d r (class-avoids (none-of "\"") 34 (omega arith) refl (l .second .first))
+      ∙ ap (λ (n : ℕ). later (suc n) (f r)) (sym (length-append d (34 ∷ []))) ∙ ap (λ (z : List ℕ). later (length z) (f r)) (sym e)
+  clear-literal x (inr l) r =
+      let d : List ℕ = l .second .left in
+      let e : x ≡ 39 ∷ (d ++ (39 ∷ [])) = l .split ∙ (λ i. l .first i ++ (l .second .split ∙ ap (λ (z : List ℕ). d ++ z) (l .second .second)) i) in
+      ap (λ (z : List ℕ). f (z ++ r)) e ∙ ap (λ (z : List ℕ). f (39 ∷ z)) (append-assoc d (39 ∷ []) r)
+      ∙ P .single d r (class-avoids (none-of "'") 39 (omega arith) refl (l .second .first))
+      ∙ ap (λ (n : ℕ). later (suc n) (f r)) (sym (length-append d (39 ∷ []))) ∙ ap (λ (z : List ℕ). later (length z) (f r)) (sym e)
+
+  pub clear-tame : {x : List ℕ} → Tame x → Clear f x
+  clear-tame (end e) = subst (Clear f) (sym e) clear-none
+  clear-tame (more u v e i s) = subst (Clear f) (sym e) (clear-append f u v (item i) (clear-tame s))
+    where
+      item : (Ch (none-of "\"'<>[]") ∣ SystemLiteral) u → Clear f u
+      item (inl c) = clear-ch u c
+      item (inr l) = clear-literal u l
+
+-- of the six signs, none
+plain-no : (b : ℕ) → T (none-of "\"'<>[]" b) → (one-of "\"'" b ≡ false) × (eqb b 60 ≡ false) × (one-of "[" b ≡ false) × (one-of "]" b ≡ false)
+plain-no b t = go (eqb b 34) (eqb b 39) (eqb b 60) (eqb b 62) (eqb b 91) (eqb b 93) t
+  where
+    go : (a b c d e f : Bool) → T (not (a || (b || (c || (d || (e || (f || false))))))) → ((a || (b || false)) ≡ false) × (c ≡ false) × ((e || false) ≡ false) × ((f || false) ≡ false)
+    go true b c d e f t = absurd t
+    go false true c d e f t = absurd t
+    go false false true d e f t = absurd t
+    go false false false true e f t = absurd t
+    go false false false false true f t = absurd t
+    go false false false false false true t = absurd t
+    go false false false false false false t = (refl, refl, refl, refl)
+
+-- the first part of the scan passes them
+open-inside : (q : ℕ) (x r : List ℕ) → avoids (suc q) x ≡ true → subset-open (suc q) (x ++ r) ≡ later (length x) (subset-open (suc q) r)
+unfolding subset-open
+open-inside q [] r h = later-zero (subset-open (suc q) r)
+open-inside q (b ∷ x) r h = go (eqb b (suc q)) h (open-inside q x r)
+  where
+    go : (t : Bool) → (not t && avoids (suc q) x) ≡ true → (avoids (suc q) x ≡ true → subset-open (suc q) (x ++ r) ≡ later (length x) (subset-open (suc q) r))
+        → later 1 (subset-open (pick t 0 (suc q)) (x ++ r)) ≡ later (suc (length x)) (subset-open (suc q) r)
+    go true e ih = absurd (true≢false (sym e))
+    go false e ih = ap (later 1) (ih e) ∙ later-suc (length x) (subset-open (suc q) r)
+
+literal-size : (n : ℕ) (p : Place) → later 1 (later n (later 1 p)) ≡ later (suc (n + 1)) p
+literal-size n p = ap (later 1) (later-later n 1 p) ∙ later-suc (n + 1) p
+
+open-literal : (q : ℕ) (x r : List ℕ) → one-of "[" (suc q) ≡ false → one-of "\"'" (suc q) ≡ true → avoids (suc q) x ≡ true → subset-open 0 (suc q ∷ (x ++ (suc q ∷ r))) ≡ later (suc (length x + 1)) (subset-open 0 r)
+unfolding subset-open
+open-literal q x r m n h = rw (m, n, open-inside q x (suc q ∷ r) h, eqb-yes (suc q) (suc q) refl) (literal-size (length x) (subset-open 0 r))
+
+pub open-passes : Passes (subset-open 0)
+unfolding subset-open
+open-passes = record {
+  plain = λ b r t. let (p, _, q, _) = plain-no b t in rw (q, p);
+  double = λ x r h. open-literal 33 x r refl refl h;
+  single = λ x r h. open-literal 38 x r refl refl h;
+}
+
+-- so does the second
+end-inside : (q : ℕ) (x r : List ℕ) → avoids (suc q) x ≡ true → subset-end 0 (suc q) (x ++ r) ≡ later (length x) (subset-end 0 (suc q) r)
+unfolding subset-end
+end-inside q [] r h = later-zero (subset-end 0 (suc q) r)
+end-inside q (b ∷ x) r h = go (eqb b (suc q)) h (end-inside q x r)
+  where
+    go : (t : Bool) → (not t && avoids (suc q) x) ≡ true → (avoids (suc q) x ≡ true → subset-end 0 (suc q) (x ++ r) ≡ later (length x) (subset-end 0 (suc q) r))
+        → later 1 (subset-end 0 (pick t 0 (suc q)) (x ++ r)) ≡ later (suc (length x)) (subset-end 0 (suc q) r)
+    go true e ih = absurd (true≢false (sym e))
+    go false e ih = ap (later 1) (ih e) ∙ later-suc (length x) (subset-end 0 (suc q) r)
+
+end-literal : (q : ℕ) (x r : List ℕ) → one-of "]" (suc q) ≡ false → eqb (suc q) 60 ≡ false → one-of "\"'" (suc q) ≡ true → avoids (suc q) x ≡ true → subset-end 0 0 (suc q ∷ (x ++ (suc q ∷ r))) ≡ later (suc (length x + 1)) (subset-end 0 0 r)
+unfolding subset-end starts
+end-literal q x r m l n h = rw (m, l, n, end-inside q x (suc q ∷ r) h, eqb-yes (suc q) (suc q) refl) (literal-size (length x) (subset-end 0 0 r))
+
+pub end-passes : Passes (subset-end 0 0)
+unfolding subset-end starts
+end-passes = record {
+  plain = λ b r t. let (p, l, _, q) = plain-no b t in rw (q, l, p);
+  double = λ x r h. end-literal 33 x r refl refl refl h;
+  single = λ x r h. end-literal 38 x r refl refl refl h;
+}
+
+-- a comment
+end-skip : (q : ℕ) (x r : List ℕ) → subset-end (length x) q (x ++ r) ≡ later (length x) (subset-end 0 q r)
+unfolding subset-end
+end-skip q [] r = later-zero (subset-end 0 q r)
+end-skip q (b ∷ x) r = ap (later 1) (end-skip q x r) ∙ later-suc (length x) (subset-end 0 q r)
+
+pub clear-comment : (x : List ℕ) → Comment x → Clear (subset-end 0 0) x
+unfolding Comment subset-end starts
+clear-comment x c r =
+    let t : List ℕ = c .second .left ++ c .second .second .left in
+    let e : x ≡ 60 ∷ 33 ∷ 45 ∷ 45 ∷ (t ++ (45 ∷ 45 ∷ 62 ∷ [])) =
+    c .split ∙ (λ i. c .first i ++ (c .second .split ∙ ap (λ (z : List ℕ). c .second .left ++ z) (c .second .second .split ∙ ap (λ (z : List ℕ). c .second .second .left ++ z) (c .second .second .second)) ∙ sym (append-assoc (c .second .left) (c .second .second .left) (45 ∷ 45 ∷ 62 ∷ []))) i) in
+    let n : twice t ≡ false = no-twice (c .second .second .left) (c .second .first) (c .second .second .first) in
+    ap (λ (z : List ℕ). subset-end 0 0 (z ++ r)) e ∙ ap (λ (z : List ℕ). subset-end 0 0 (60 ∷ 33 ∷ 45 ∷ 45 ∷ z)) (append-assoc t (45 ∷ 45 ∷ 62 ∷ []) r)
+    ∙ passed t n ∙ ap (λ (z : List ℕ). later (length z) (subset-end 0 0 r)) (sym e)
+  where
+    passed : (t : List ℕ) → twice t ≡ false → subset-end 0 0 (60 ∷ 33 ∷ 45 ∷ 45 ∷ (t ++ (45 ∷ 45 ∷ 62 ∷ r))) ≡ later (length (60 ∷ 33 ∷ 45 ∷ 45 ∷ (t ++ (45 ∷ 45 ∷ 62 ∷ [])))) (subset-end 0 0 r)
+    passed t n =
+        let x : List ℕ = 33 ∷ 45 ∷ 45 ∷ (t ++ (45 ∷ 45 ∷ 62 ∷ [])) in
+        let m : length t + 6 ≡ length x = omega (arith, length-append t (45 ∷ 45 ∷ 62 ∷ [])) in
+        rw (contains-at 45 (45 ∷ 62 ∷ []) t r, first-close t r n)
+        (ap (λ (k : ℕ). later 1 (subset-end k 0 (33 ∷ 45 ∷ 45 ∷ (t ++ (45 ∷ 45 ∷ 62 ∷ r))))) m
+        ∙ ap (λ (z : List ℕ). later 1 (subset-end (length x) 0 (33 ∷ 45 ∷ 45 ∷ z))) (sym (append-assoc t (45 ∷ 45 ∷ 62 ∷ []) r))
+        ∙ ap (later 1) (end-skip 0 x r) ∙ later-suc (length x) (subset-end 0 0 r))
+
+-- what ends in '>', with its quotes in pairs and nothing outside them that the scan would stop at
+abbrev lacks : ℕ → List ℕ → Bool
+lacks c [] = true
+lacks c (a ∷ p) = not (eqb c a) && lacks c p
+
+starts-seam : (c : ℕ) (p y r s : List ℕ) → lacks c p ≡ true → starts p (y ++ c ∷ r) ≡ starts p (y ++ c ∷ s)
+unfolding starts
+starts-seam c [] y r s h = refl
+starts-seam c (a ∷ p) [] r s h = go (eqb c a) h
+  where
+    go : (t : Bool) → (not t && lacks c p) ≡ true → (t && starts p r) ≡ (t && starts p s)
+    go true e = absurd (true≢false (sym e))
+    go false e = refl
+starts-seam c (a ∷ p) (b ∷ y) r s h = ap (λ (t : Bool). eqb b a && t) (starts-seam c p y r s (and-right (not (eqb c a)) (lacks c p) h))
+
+clear-quiet : (q : ℕ) (y r : List ℕ) → quiet q (y ++ 62 ∷ []) ≡ true → paired q (y ++ 62 ∷ []) ≡ true → subset-end 0 q (y ++ 62 ∷ r) ≡ later (suc (length y)) (subset-end 0 0 r)
+unfolding quiet paired subset-end starts
+clear-quiet zero [] r h k = refl
+clear-quiet (suc q) [] r h k = go (eqb 62 (suc q)) k
+  where
+    go : (t : Bool) → paired (pick t 0 (suc q)) [] ≡ true → later 1 (subset-end 0 (pick t 0 (suc q)) r) ≡ later 1 (subset-end 0 0 r)
+    go true e = refl
+    go false e = absurd (true≢false (sym e))
+clear-quiet zero (b ∷ y) r h k =
+    by-close (one-of "]" b) (starts (ascii "<!--") (b ∷ (y ++ 62 ∷ []))) h (starts-seam 62 (ascii "<!--") (b ∷ y) r [] refl)
+    (λ g. clear-quiet (pick (one-of "\"'" b) b 0) y r g k)
+  where
+    by-close : (s t : Bool) → ((not s && not t) && quiet (pick (one-of "\"'" b) b 0) (y ++ 62 ∷ [])) ≡ true → starts (ascii "<!--") (b ∷ (y ++ 62 ∷ r)) ≡ t
+        → (quiet (pick (one-of "\"'" b) b 0) (y ++ 62 ∷ []) ≡ true → subset-end 0 (pick (one-of "\"'" b) b 0) (y ++ 62 ∷ r) ≡ later (suc (length y)) (subset-end 0 0 r))
+        → pick s (at 0) (pick (starts (ascii "<!--") (b ∷ (y ++ 62 ∷ r)))
+        (pick (contains (ascii "-->") (drop 3 (y ++ 62 ∷ r))) (later 1 (subset-end (before (ascii "-->") (drop 3 (y ++ 62 ∷ r)) + 6) 0 (y ++ 62 ∷ r))) nowhere)
+        (later 1 (subset-end 0 (pick (one-of "\"'" b) b 0) (y ++ 62 ∷ r)))) ≡ later (suc (suc (length y))) (subset-end 0 0 r)
+    by-close true t e f ih = absurd (true≢false (sym e))
+    by-close false true e f ih = absurd (true≢false (sym e))
+    by-close false false e f ih = rw f (ap (later 1) (ih e) ∙ later-suc (suc (length y)) (subset-end 0 0 r))
+clear-quiet (suc q) (b ∷ y) r h k = ap (later 1) (clear-quiet (pick (eqb b (suc q)) 0 (suc q)) y r h k) ∙ later-suc (suc (length y)) (subset-end 0 0 r)
+
+clear-ended : (y : List ℕ) → quiet 0 (y ++ 62 ∷ []) ≡ true → paired 0 (y ++ 62 ∷ []) ≡ true → Clear (subset-end 0 0) (y ++ 62 ∷ [])
+clear-ended y h k r =
+    ap (subset-end 0 0) (append-assoc y (62 ∷ []) r) ∙ clear-quiet 0 y r h k
+    ∙ ap (λ (n : ℕ). later n (subset-end 0 0 r)) (let e : suc (length y) ≡ length (y ++ 62 ∷ []) = omega (arith, length-append y (62 ∷ [])) in e)
+
+-- a delimited body has its quotes in pairs
+del-paired : (q : ℕ) (u : List ℕ) → del q u ≡ true → paired q (u ++ 62 ∷ []) ≡ true
+unfolding del paired
+del-paired zero [] h = refl
+del-paired (suc q) [] h = absurd (true≢false (sym h))
+del-paired zero (b ∷ u) h = del-paired (pick (one-of "\"'" b) b 0) u (and-right (not (one-of ">" b)) (del (pick (one-of "\"'" b) b 0) u) h)
+del-paired (suc q) (b ∷ u) h = del-paired (pick (eqb b (suc q)) 0 (suc q)) u h
+
+-- an instruction without quote marks has them in pairs
+pub bare-quoting : (w : List ℕ) → bare w ≡ true → (paired 0 w ≡ true) × (quiet 0 w ≡ true)
+unfolding bare paired quiet
+bare-quoting [] h = (refl, refl)
+bare-quoting (b ∷ w) h = go (eqb b 34) (eqb b 39) (eqb b 93) (starts (ascii "<!--") (b ∷ w)) h (bare-quoting w)
+  where
+    go : (a c d t : Bool) → ((not (a || (c || (d || false))) && not t) && bare w) ≡ true → (bare w ≡ true → (paired 0 w ≡ true) × (quiet 0 w ≡ true))
+        → (paired (pick (a || (c || false)) b 0) w ≡ true) × (((not (d || false) && not t) && quiet (pick (a || (c || false)) b 0) w) ≡ true)
+    go true c d t e ih = absurd (true≢false (sym e))
+    go false true d t e ih = absurd (true≢false (sym e))
+    go false false true t e ih = absurd (true≢false (sym e))
+    go false false false true e ih = absurd (true≢false (sym e))
+    go false false false false e ih = ih e
+
+-- the entries of a subset
+keyword-element : Clear (subset-end 0 0) (ascii "<!ELEMENT")
+unfolding subset-end starts
+keyword-element r = ap (later 1) (clear-tame end-passes (plain-bytes (ascii "!ELEMENT") refl) r) ∙ later-suc 8 (subset-end 0 0 r)
+
+keyword-attlist : Clear (subset-end 0 0) (ascii "<!ATTLIST")
+unfolding subset-end starts
+keyword-attlist r = ap (later 1) (clear-tame end-passes (plain-bytes (ascii "!ATTLIST") refl) r) ∙ later-suc 8 (subset-end 0 0 r)
+
+keyword-entity : Clear (subset-end 0 0) (ascii "<!ENTITY")
+unfolding subset-end starts
+keyword-entity r = ap (later 1) (clear-tame end-passes (plain-bytes (ascii "!ENTITY") refl) r) ∙ later-suc 7 (subset-end 0 0 r)
+
+keyword-notation : Clear (subset-end 0 0) (ascii "<!NOTATION")
+unfolding subset-end starts
+keyword-notation r = ap (later 1) (clear-tame end-passes (plain-bytes (ascii "!NOTATION") refl) r) ∙ later-suc 9 (subset-end 0 0 r)
+
+both-left : (a b : Bool) → T (a && b) → T a
+both-left true b t = tt
+both-left false b t = absurd t
+
+both-right : (a b : Bool) → T (a && b) → T b
+both-right true b t = t
+both-right false b t = absurd t
+
+module _ (D : Dialect) (A : AsciiNames D) where
+  -- a declaration, read or unread
+  clear-declaration : (pe : Bool) (s : String) {B : Lang} → Clear (subset-end 0 0) (ascii s) → ((u : List ℕ) → paired 0 (ascii s ++ u) ≡ paired 0 u) → Within B
+      → (y : List ℕ) → (lit s · declared D pe B · lit ">") y
+      → T (not (pe || has-pe-reference D (drop (length (ascii s)) (take (length y - 1) y))) || quiet 0 y) → Clear (subset-end 0 0) y
+  unfolding Delimited Unread
+  clear-declaration pe s {B} key pairs inner y l h = by pe (l .second .first) (subst (λ (z : List ℕ). T (not (pe || has-pe-reference D z) || quiet 0 y)) body-is h)
+    where
+      u : List ℕ
+      u = l .second .left
+
+      whole : y ≡ (ascii s ++ u) ++ (62 ∷ [])
+      whole = l .split ∙ (λ i. l .first i ++ (l .second .split ∙ ap (λ (z : List ℕ). u ++ z) (l .second .second)) i) ∙ sym (append-assoc (ascii s) u (62 ∷ []))
+
+      body-is : drop (length (ascii s)) (take (length y - 1) y) ≡ u
+      body-is =
+          let n : length (ascii s ++ u) ≡ length y - 1 = omega (arith, ap length whole, length-append (ascii s ++ u) (62 ∷ [])) in
+          ap (drop (length (ascii s))) (ap (take (length y - 1)) whole ∙ take-at (ascii s ++ u) (62 ∷ []) (length y - 1) n) ∙ drop-append-seam (ascii s) u
+
+      when-unread : Star (Ch (none-of "\"'>") ∣ SystemLiteral) u → T (quiet 0 y) → Clear (subset-end 0 0) y
+      when-unread d q =
+          subst (Clear (subset-end 0 0)) (sym whole)
+          (clear-ended (ascii s ++ u) (ap (quiet 0) (sym whole) ∙ T→true (quiet 0 y) q)
+          (ap (paired 0) (append-assoc (ascii s) u (62 ∷ [])) ∙ pairs (u ++ (62 ∷ [])) ∙ del-paired 0 u (delimited-del d)))
+
+      when-read : B u → Clear (subset-end 0 0) y
+      when-read b = subst (Clear (subset-end 0 0)) (sym whole) (clear-append (subset-end 0 0) (ascii s ++ u) (62 ∷ []) (clear-append (subset-end 0 0) (ascii s) u key (clear-tame end-passes (inner u b))) closing)
+        where
+          closing : Clear (subset-end 0 0) (62 ∷ [])
+          closing r = clear-quiet 0 [] r (unfold quiet starts in refl) (unfold paired in refl)
+
+      by : (pe : Bool) → declared D pe B u → T (not (pe || has-pe-reference D u) || quiet 0 y) → Clear (subset-end 0 0) y
+      by true d q = when-unread d q
+      by false (inl b) q = when-read b
+      by false (inr n) q = when-unread (n .0) (rw (refers-complete D u (n .1)) at q)
+
+  clear-instruction : (y : List ℕ) → PI D y → T (quoting y) → Clear (subset-end 0 0) y
+  unfolding PI
+  clear-instruction y l h =
+      let a : List ℕ = l .left ++ (l .second .left ++ l .second .second .left) in
+      let e : y ≡ (a ++ (63 ∷ [])) ++ (62 ∷ []) = shape a refl in
+      subst (Clear (subset-end 0 0)) (sym e)
+      (clear-ended (a ++ (63 ∷ [])) (ap (quiet 0) (sym e) ∙ T→true (quiet 0 y) (both-right (paired 0 y) (quiet 0 y) h)) (ap (paired 0) (sym e) ∙ T→true (paired 0 y) (both-left (paired 0 y) (quiet 0 y) h)))
+    where
+      shape : (a : List ℕ) → a ≡ l .left ++ (l .second .left ++ l .second .second .left) → y ≡ (a ++ (63 ∷ [])) ++ (62 ∷ [])
+      shape a e =
+          l .split ∙ ap (λ (z : List ℕ). l .left ++ z) (l .second .split ∙ ap (λ (z : List ℕ). l .second .left ++ z) (l .second .second .split ∙ ap (λ (z : List ℕ). l .second .second .left ++ z) (l .second .second .second)))
+          ∙ ap (λ (z : List ℕ). l .left ++ z) (sym (append-assoc (l .second .left) (l .second .second .left) (63 ∷ 62 ∷ []))) ∙ sym (append-assoc (l .left) (l .second .left ++ l .second .second .left) (63 ∷ 62 ∷ []))
+          ∙ ap (λ (z : List ℕ). z ++ (63 ∷ 62 ∷ [])) (sym e) ∙ sym (append-assoc a (63 ∷ []) (62 ∷ []))
+
+  pub within-reference : Within (PEReference D)
+  unfolding PEReference
+  within-reference = within-cat (within-lit "%" tt) (within-cat (within-name D A) (within-lit ";" tt))
+
+  clear-entry : (pe : Bool) (k : Kind) (y : List ℕ) → entry-of D pe k y → T (premised D quoting pe k y) → Clear (subset-end 0 0) y
+  unfolding paired
+  clear-entry pe element y l h = clear-declaration pe "<!ELEMENT" keyword-element (λ u. refl) (within-element D A) y l h
+  clear-entry pe attlist y l h = clear-declaration pe "<!ATTLIST" keyword-attlist (λ u. refl) (within-attlist D A) y l h
+  clear-entry pe entity y l h = clear-declaration pe "<!ENTITY" keyword-entity (λ u. refl) (within-entity D A) y l h
+  clear-entry pe notation y l h = clear-declaration pe "<!NOTATION" keyword-notation (λ u. refl) (within-notation D A) y l h
+  clear-entry pe instruction y l h = clear-instruction y l h
+  clear-entry pe comment y l h = clear-comment y l
+  clear-entry pe reference y l h = clear-tame end-passes (within-reference y l)
+
+  pub clear-filling : {pe : Bool} {w : List ℕ} (f : Filling D pe w) → T (Premise D quoting f) → Clear (subset-end 0 0) w
+  clear-filling (last b) h = clear-tame end-passes (within-s? _ b)
+  clear-filling (next {pe = pe} k s y z e b l f) h =
+      subst (Clear (subset-end 0 0)) (sym e)
+      (clear-append (subset-end 0 0) s (y ++ z) (clear-tame end-passes (within-s? s b))
+      (clear-append (subset-end 0 0) y z (clear-entry pe k y l (both-left (premised D quoting pe k y) (Premise D quoting f) h)) (clear-filling f (both-right (premised D quoting pe k y) (Premise D quoting f) h))))
+
+  -- what stands before the subset
+  pub within-front : Within (Front D)
+  within-front = within-cat within-s? (within-cat (within-name D A) (within-cat (within-either (within-cat within-s within-external) within-none) within-s?))
+
+  pub clear-front : (w : List ℕ) → Front D w → Clear (subset-open 0) w
+  clear-front w l = clear-tame open-passes (within-front w l)

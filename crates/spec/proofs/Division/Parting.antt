@@ -1,0 +1,288 @@
+-- The grammar divides the internal subset into entries, and in one way only. Assumes nothing.
+use mathlib.Core.Logic
+use Rattle.spec.proofs.Dtd.Subset as Subset
+use mathlib.Core.Bool.{Bool, true, false, _||_}
+use mathlib.Core.List.{List, [], _∷_, _++_, append-assoc, append-nil}
+use mathlib.Core.Logic.{_⊎_}
+use mathlib.Core.Path.{_≡_, refl, sym, _∙_, ap, subst}
+use Prim.Native.Nat.{ℕ, suc, _+_}
+use Prim.Native.String.{String}
+use lib.Dec.{T}
+use lib.ListN.{length, take, drop}
+use lib.Seq.{take-append-seam, take-at, drop-append-seam, drop-at}
+use Rattle.spec.specs.Grammar.Characters.{S, S?}
+use Rattle.spec.specs.Grammar.Declarations.{PI, Comment, markupdecl}
+use Rattle.spec.specs.Grammar.Division.{Kind, element, attlist, entity, notation, instruction, comment, reference, refers, entry-of, Front}
+use Rattle.spec.specs.Grammar.Doctype.{intSubset, doctypedecl}
+use Rattle.spec.specs.Grammar.Languages.{Lang, lit, ascii, _·_, _∣_, inl, inr, Star, end, more, Opt, any}
+use Rattle.spec.specs.Grammar.Names.{Dialect, PEReference}
+use Rattle.spec.specs.Reading.Dtd.{skip-s, parse-pe-reference, parse-markup-decl}
+use Rattle.spec.specs.Reading.Readers.{ok, Reader, starts, on, past}
+use Rattle.spec.specs.Reading.Scan.{at, subset-open}
+use Rattle.spec.proofs.Agreement.Algebra.{_then_, cat₂, assoc}
+use Rattle.spec.proofs.Agreement.Choices.{on-begun}
+use Rattle.spec.proofs.Agreement.Reads.{Reads, Next, _≅_}
+use Rattle.spec.proofs.Agreement.Runs.{not-space, skip}
+use Rattle.spec.proofs.Agreement.Signs.{kind, Class, _∪_, sub-refl, by-signs, sub-at}
+use Rattle.spec.proofs.Agreement.Words.{first-of, starts-lit}
+use Rattle.spec.proofs.Base.Results.{ok-inj}
+use Rattle.spec.proofs.Characters.Text.{star-append}
+use Rattle.spec.proofs.Division.Clear.{clear-front}
+use Rattle.spec.proofs.Division.Divide.{kind-at}
+use Rattle.spec.proofs.Division.FrontParts.{at-inj}
+use Rattle.spec.proofs.Division.Parts.{Filling, last, next, entries, Parts, Divided-parts, One-parts}
+use Rattle.spec.proofs.Division.Scans.{found-after}
+use Rattle.spec.proofs.Dtd.Markup.{markup-reads}
+use Rattle.spec.proofs.Wellformed.Names.{AsciiNames}
+
+-- parts of one length, at the front of one text
+same-length : (x y v w : List ℕ) → length x ≡ length y → x ++ v ≡ y ++ w → (x ≡ y) × (v ≡ w)
+same-length x y v w n e = (
+  sym (take-append-seam x v) ∙ ap (take (length x)) e ∙ take-at y w (length x) (sym n),
+  sym (drop-append-seam x v) ∙ ap (drop (length x)) e ∙ drop-at y w (length x) (sym n),
+)
+
+same-taken : (r : Reader) (x y v w : List ℕ) → r (x ++ v) ≡ ok (length x) → r (y ++ w) ≡ ok (length y) → x ++ v ≡ y ++ w → (x ≡ y) × (v ≡ w)
+same-taken r x y v w a b e = same-length x y v w (ok-inj (length x) (length y) (sym a ∙ ap r e ∙ b)) e
+
+-- white space ends where none stands
+same-space : (x y v w : List ℕ) → S? x → S? y → T (not-space (kind v)) → T (not-space (kind w)) → x ++ v ≡ y ++ w → (x ≡ y) × (v ≡ w)
+same-space x y v w a b c d e =
+    same-taken skip-s x y v w (skip not-space sub-refl .complete x v a (record { it = c })) (skip not-space sub-refl .complete y w b (record { it = d })) e
+
+begun : (s : String) {M : Lang} {y : List ℕ} (v : List ℕ) (l : (lit s · M) y) → y ++ v ≡ ascii s ++ (l .right ++ v)
+begun s v l = ap (λ (z : List ℕ). z ++ v) (l .split ∙ ap (λ (z : List ℕ). z ++ l .right) (l .first)) ∙ append-assoc (ascii s) (l .right) v
+
+no-spaces : S? []
+unfolding S?
+no-spaces = end refl
+
+plus-spaces : (x : List ℕ) → S x → S? x
+unfolding S S?
+plus-spaces x p = more (p .left) (p .right) (p .split) (p .first) (p .second)
+
+spaces : {L : Lang} {x : List ℕ} → ((w : List ℕ) → S w → L w) → S? x → Star L x
+unfolding S S?
+spaces f (end e) = end e
+spaces {x = x} f (more u v e c s) = more x [] (sym (append-nil x)) (f x (record { left = u; right = v; split = e; first = c; second = s })) (end refl)
+
+or-none : (b : Bool) → b || false ≡ b
+or-none true = refl
+or-none false = refl
+
+or-all : (b : Bool) → b || true ≡ true
+or-all true = refl
+or-all false = refl
+
+module _ (D : Dialect) (A : AsciiNames D) where
+  pub kind-is : (pe : Bool) (k : Kind) (y v : List ℕ) → entry-of D pe k y → kind-at (y ++ v) ≡ k
+  unfolding kind-at starts PI Comment PEReference
+  kind-is pe element y v l = ap kind-at (begun "<!ELEMENT" v l)
+  kind-is pe attlist y v l = ap kind-at (begun "<!ATTLIST" v l)
+  kind-is pe entity y v l = ap kind-at (begun "<!ENTITY" v l)
+  kind-is pe notation y v l = ap kind-at (begun "<!NOTATION" v l)
+  kind-is pe instruction y v l = ap kind-at (begun "<?" v l)
+  kind-is pe comment y v l = ap kind-at (begun "<!--" v l)
+  kind-is pe reference y v l = ap kind-at (begun "%" v l)
+
+  pe-reads : Reads (parse-pe-reference D) (PEReference D) (Next any) (first-of "%")
+  pe-reads = Subset.pe-reads D A (markupdecl D) (markup-reads D A)
+
+  entry-reads : (pe : Bool) → Reads (on "%" (parse-pe-reference D) (parse-markup-decl D pe)) (PEReference D ∣ markupdecl D pe) (Next any) (first-of "%" ∪ first-of "<")
+  unfolding PEReference
+  entry-reads pe = on-begun "%" tt (λ u v l. starts-lit "%" v l) pe-reads (markup-reads D A pe)
+
+  abbrev Sorted : Bool → Kind → List ℕ → Type 0
+  Sorted pe k y = ((refers k ≡ true) × PEReference D y) ⊎ ((refers k ≡ false) × markupdecl D pe y)
+
+  sort : (pe : Bool) (k : Kind) (y : List ℕ) → entry-of D pe k y → Sorted pe k y
+  unfolding markupdecl
+  sort pe element y l = Logic.inr (refl, inl l)
+  sort pe attlist y l = Logic.inr (refl, inr (inl l))
+  sort pe entity y l = Logic.inr (refl, inr (inr (inl l)))
+  sort pe notation y l = Logic.inr (refl, inr (inr (inr (inl l))))
+  sort pe instruction y l = Logic.inr (refl, inr (inr (inr (inr (inl l)))))
+  sort pe comment y l = Logic.inr (refl, inr (inr (inr (inr (inr l)))))
+  sort pe reference y l = Logic.inl (refl, l)
+
+  sorted : (pe : Bool) (k : Kind) (y : List ℕ) → Sorted pe k y → (PEReference D ∣ markupdecl D pe) y
+  sorted pe k y (Logic.inl x) = inl (x .1)
+  sorted pe k y (Logic.inr x) = inr (x .1)
+
+  -- an entry is what its reader takes, and begins with one of two signs
+  pub entry-taken : (pe : Bool) (k : Kind) (y v : List ℕ) → entry-of D pe k y → on "%" (parse-pe-reference D) (parse-markup-decl D pe) (y ++ v) ≡ ok (length y)
+  entry-taken pe k y v l = entry-reads pe .complete y v (sorted pe k y (sort pe k y l)) (record { it = tt })
+
+  abbrev pub entry-first : Class
+  entry-first = first-of "%" ∪ first-of "<"
+
+  pub entry-leads : (pe : Bool) (k : Kind) (y v : List ℕ) → entry-of D pe k y → T (entry-first (kind (y ++ v)))
+  entry-leads pe k y v l = entry-reads pe .leads y v (sorted pe k y (sort pe k y l)) (record { it = tt })
+
+  pub entry-no-space : (pe : Bool) (k : Kind) (y v : List ℕ) → entry-of D pe k y → T (not-space (kind (y ++ v)))
+  entry-no-space pe k y v l = sub-at entry-first not-space (by-signs tt) (y ++ v) (entry-leads pe k y v l)
+
+  pub close-no-space : (b : List ℕ) → T (not-space (kind (93 ∷ b)))
+  unfolding kind
+  close-no-space b = tt
+
+  not-close : (pe : Bool) (k : Kind) (y v b : List ℕ) → entry-of D pe k y → 93 ∷ b ≡ y ++ v → ⊥
+  unfolding kind
+  not-close pe k y v b l e = subst (λ (z : List ℕ). T (entry-first (kind z))) (sym e) (entry-leads pe k y v l)
+
+  -- two entries at one place are the same
+  same-entry : (pe : Bool) (k m : Kind) (x y v w : List ℕ) → entry-of D pe k x → entry-of D pe m y → x ++ v ≡ y ++ w → (k ≡ m) × (x ≡ y) × (v ≡ w)
+  same-entry pe k m x y v w a b e =
+      let (f, g) = same-taken (on "%" (parse-pe-reference D) (parse-markup-decl D pe)) x y v w (entry-taken pe k x v a) (entry-taken pe m y w b) e in
+      (sym (kind-is pe k x v a) ∙ ap kind-at e ∙ kind-is pe m y w b, f, g)
+
+  regroup : {w : List ℕ} (s y z c : List ℕ) → w ≡ s ++ (y ++ z) → w ++ c ≡ s ++ (y ++ (z ++ c))
+  regroup s y z c e = ap (λ (q : List ℕ). q ++ c) e ∙ append-assoc s (y ++ z) c ∙ ap (λ (q : List ℕ). s ++ q) (append-assoc y z c)
+
+  -- two fillings before a ']' each, of one text
+  same-filling : {p q : Bool} {x y : List ℕ} (f : Filling D p x) (g : Filling D q y) (n : ℕ) (b c : List ℕ) → p ≡ q → x ++ 93 ∷ b ≡ y ++ 93 ∷ c → (entries D n f ≡ entries D n g) × (x ≡ y)
+  same-filling {x = x} {y = y} (last s) (last t) n b c pq e =
+      (refl, same-space x y (93 ∷ b) (93 ∷ c) s t (close-no-space b) (close-no-space c) e .0)
+  same-filling {q = q} {x = x} (last s) (next m t y z h a l g) n b c pq e =
+      let (_, d) = same-space x t (93 ∷ b) (y ++ (z ++ 93 ∷ c)) s a (close-no-space b) (entry-no-space q m y (z ++ 93 ∷ c) l) (e ∙ regroup t y z (93 ∷ c) h) in
+      absurd (not-close q m y (z ++ 93 ∷ c) b l d)
+  same-filling {p = p} {y = w} (next k s x z h a l f) (last t) n b c pq e =
+      let (_, d) = same-space w s (93 ∷ c) (x ++ (z ++ 93 ∷ b)) t a (close-no-space c) (entry-no-space p k x (z ++ 93 ∷ b) l) (sym e ∙ regroup s x z (93 ∷ b) h) in
+      absurd (not-close p k x (z ++ 93 ∷ b) c l d)
+  same-filling {p = p} {q = q} (next k s x z h a l f) (next m t y u j d o g) n b c pq e =
+      let (st, r) = same-space s t (x ++ (z ++ 93 ∷ b)) (y ++ (u ++ 93 ∷ c)) a d (entry-no-space p k x (z ++ 93 ∷ b) l) (entry-no-space q m y (u ++ 93 ∷ c) o) (sym (regroup s x z (93 ∷ b) h) ∙ e ∙ regroup t y u (93 ∷ c) j) in
+      let (km, xy, v) = same-entry p k m x y (z ++ 93 ∷ b) (u ++ 93 ∷ c) l (subst (λ (v : Bool). entry-of D v m y) (sym pq) o) r in
+      let (es, zu) = same-filling f g (n + length s + length x) b c (λ i. pq i || refers (km i)) v in (
+        (λ i. record { kind = km i; first = n + length (st i); past = n + length (st i) + length (xy i) } ∷ (es ∙ (λ j. entries D (n + length (st j) + length (xy j)) g)) i),
+        h ∙ (λ i. st i ++ (xy i ++ zu i)) ∙ sym j,
+      )
+
+  pub one-parts : One-parts D
+  unfolding subset-open
+  one-parts w a b =
+      let o : length (a .front) ≡ length (b .front) = at-inj (length (a .front)) (length (b .front)) (sym (opened a) ∙ opened b) in
+      let (f, r) = same-length (a .front) (b .front) _ _ o (sym (a .split) ∙ b .split) in
+      let i : a .inner ++ (93 ∷ a .back) ≡ b .inner ++ (93 ∷ b .back) = ap (drop 1) r in
+      let (es, xy) = same-filling (a .fills) (b .fills) (suc (length (a .front))) (a .back) (b .back) refl i in
+      (es ∙ ap (λ (n : ℕ). entries D (suc n) (b .fills)) o, o, (λ j. suc (o j) + length (xy j)))
+    where
+      opened : (d : Parts D w) → subset-open 0 w ≡ at (length (d .front))
+      opened d = ap (subset-open 0) (d .split) ∙ found-after (subset-open 0) (d .front) (91 ∷ (d .inner ++ (93 ∷ d .back))) (clear-front D A (d .front) (d .heads)) refl
+
+  -- what W3C's text derives, divided
+  fill-space : {pe : Bool} {z : List ℕ} (x : List ℕ) → S? x → Filling D pe z → Filling D pe (x ++ z)
+  unfolding S?
+  fill-space x s (last b) = last (star-append s b)
+  fill-space x s (next k a y z e b l f) = next k (x ++ a) y z (ap (λ (u : List ℕ). x ++ u) e ∙ sym (append-assoc x a (y ++ z))) (star-append s b) l f
+
+  add : (pe : Bool) (y z : List ℕ) → markupdecl D pe y → Filling D pe z → Filling D pe (y ++ z)
+  unfolding markupdecl
+  add pe y z m f = go m
+    where
+      one : (k : Kind) → refers k ≡ false → entry-of D pe k y → Filling D pe (y ++ z)
+      one k e l = next k [] y z refl no-spaces l (subst (λ (b : Bool). Filling D b z) (sym (ap (λ (b : Bool). pe || b) e ∙ or-none pe)) f)
+
+      go : markupdecl D pe y → Filling D pe (y ++ z)
+      go (inl l) = one element refl l
+      go (inr (inl l)) = one attlist refl l
+      go (inr (inr (inl l))) = one entity refl l
+      go (inr (inr (inr (inl l)))) = one notation refl l
+      go (inr (inr (inr (inr (inl l))))) = one instruction refl l
+      go (inr (inr (inr (inr (inr l))))) = one comment refl l
+
+  abbrev Unread-items : Lang
+  Unread-items = Star (markupdecl D true ∣ PEReference D ∣ S)
+
+  unread-filling : {u : List ℕ} → Unread-items u → Filling D true u
+  unread-filling (end e) = last (subst S? (sym e) no-spaces)
+  unread-filling (more x y e (inl m) s) = subst (Filling D true) (sym e) (add true x y m (unread-filling s))
+  unread-filling (more x y e (inr (inl p)) s) = next reference [] x y e no-spaces p (unread-filling s)
+  unread-filling (more x y e (inr (inr p)) s) = subst (Filling D true) (sym e) (fill-space x (plus-spaces x p) (unread-filling s))
+
+  read-filling : {u : List ℕ} (o : List ℕ) → Star (markupdecl D false ∣ S) u → Opt (PEReference D · Unread-items) o → Filling D false (u ++ o)
+  read-filling o (end e) (inr n) = last (subst S? (sym (λ i. e i ++ n i)) no-spaces)
+  read-filling o (end e) (inl c) = next reference [] (c .left) (c .right) (λ i. e i ++ c .split i) no-spaces (c .first) (unread-filling (c .second))
+  read-filling o (more x y e (inl m) s) q =
+      subst (Filling D false) (sym (ap (λ (z : List ℕ). z ++ o) e ∙ append-assoc x y o)) (add false x (y ++ o) m (read-filling o s q))
+  read-filling o (more x y e (inr p) s) q =
+      subst (Filling D false) (sym (ap (λ (z : List ℕ). z ++ o) e ∙ append-assoc x y o)) (fill-space x (plus-spaces x p) (read-filling o s q))
+
+  -- and the other way round
+  filling-unread : {pe : Bool} {w : List ℕ} → pe ≡ true → Filling D pe w → Unread-items w
+  filling-unread h (last b) = spaces (λ w s. inr (inr s)) b
+  filling-unread {pe} h (next k s y z e b l f) =
+      subst Unread-items (sym e) (star-append (spaces (λ w s. inr (inr s)) b) (more y z refl (item (sort true k y (subst (λ (v : Bool). entry-of D v k y) h l))) (filling-unread (ap (λ (v : Bool). v || refers k) h) f)))
+    where
+      item : Sorted true k y → (markupdecl D true ∣ PEReference D ∣ S) y
+      item (Logic.inl x) = inr (inl (x .1))
+      item (Logic.inr x) = inl (x .1)
+
+  filling-read : {pe : Bool} {w : List ℕ} → pe ≡ false → Filling D pe w → intSubset D w
+  unfolding intSubset
+  filling-read {w = w} h (last b) = record { left = w; right = []; split = sym (append-nil w); first = spaces (λ w s. inr s) b; second = inr refl }
+  filling-read {pe} {w} h (next k s y z e b l f) = go (sort false k y (subst (λ (v : Bool). entry-of D v k y) h l)) (λ g. filling-read g f)
+    where
+      go : Sorted false k y → ((pe || refers k) ≡ false → (Star (markupdecl D false ∣ S) · Opt (PEReference D · Unread-items)) z) → (Star (markupdecl D false ∣ S) · Opt (PEReference D · Unread-items)) w
+      go (Logic.inl x) ih = record {
+        left = s;
+        right = y ++ z;
+        split = e;
+        first = spaces (λ w s. inr s) b;
+        second = inl (record { left = y; right = z; split = refl; first = x .1; second = filling-unread (ap (λ (v : Bool). pe || v) (x .0) ∙ or-all pe) f });
+      }
+      go (Logic.inr x) ih =
+          let t : (Star (markupdecl D false ∣ S) · Opt (PEReference D · Unread-items)) z = ih ((λ i. h i || x .0 i)) in
+          record {
+            left = s ++ (y ++ t .left);
+            right = t .right;
+            split = e ∙ ap (λ (q : List ℕ). s ++ (y ++ q)) (t .split) ∙ ap (λ (q : List ℕ). s ++ q) (sym (append-assoc y (t .left) (t .right))) ∙ sym (append-assoc s (y ++ t .left) (t .right));
+            first = star-append (spaces (λ w s. inr s) b) (more y (t .left) refl (inl (x .1)) (t .first));
+            second = t .second;
+          }
+
+  abbrev Bracket : Lang
+  Bracket = lit "[" · intSubset D · lit "]" · S?
+
+  front-first : (Front D · Opt Bracket) ≅ doctypedecl D
+  unfolding doctypedecl
+  front-first = assoc then cat₂ (assoc then cat₂ assoc)
+
+  pub divided-parts : Divided-parts D
+  divided-parts w = (λ d. to-parts (front-first .from w d), from-parts)
+    where
+      to-parts : (Front D · Opt Bracket) w → Front D w ⊎ Parts D w
+      to-parts c = go (c .second)
+        where
+          go : Opt Bracket (c .right) → Front D w ⊎ Parts D w
+          go (inr n) = Logic.inl (subst (Front D) (sym (c .split ∙ ap (λ (z : List ℕ). c .left ++ z) n ∙ append-nil (c .left))) (c .first))
+          go (inl l) = Logic.inr (unfold intSubset in record {
+            front = c .left;
+            inner = l .second .left;
+            back = l .second .second .right;
+            split = c .split ∙ ap (λ (z : List ℕ). c .left ++ z) (l .split ∙ (λ i. l .first i ++ (l .second .split ∙ ap (λ (z : List ℕ). l .second .left ++ z) (l .second .second .split ∙ ap (λ (z : List ℕ). z ++ l .second .second .right) (l .second .second .first))) i));
+            heads = c .first;
+            fills = subst (Filling D false) (sym (l .second .first .split)) (read-filling (l .second .first .right) (l .second .first .first) (l .second .first .second));
+            ends = l .second .second .second;
+          })
+
+      from-parts : Front D w ⊎ Parts D w → doctypedecl D w
+      from-parts (Logic.inl f) = front-first .to w (record { left = w; right = []; split = sym (append-nil w); first = f; second = inr refl })
+      from-parts (Logic.inr d) = front-first .to w (record {
+        left = d .front;
+        right = ascii "[" ++ (d .inner ++ (ascii "]" ++ d .back));
+        split = d .split;
+        first = d .heads;
+        second = inl (record {
+          left = ascii "[";
+          right = d .inner ++ (ascii "]" ++ d .back);
+          split = refl;
+          first = refl;
+          second = record {
+            left = d .inner;
+            right = ascii "]" ++ d .back;
+            split = refl;
+            first = filling-read refl (d .fills);
+            second = record { left = ascii "]"; right = d .back; split = refl; first = refl; second = d .ends };
+          };
+        });
+      })
