@@ -116,7 +116,7 @@ pub fn parse_name(s: &[u8], at: usize, names: Names) -> &[u8]
 }
 
 // check_name on all bytes, [5] Name: the number without the two that stand in front of every public call.
-fn name_number(text: &[u8], names: Names) -> u8
+pub fn name_number(text: &[u8], names: Names) -> u8
     ensures { λ r. ⌜ r ≡ number-of (check-name (dialect names) (now (text .entry))) ⌝ }
 {
     let e = name_end(text, 0, names);

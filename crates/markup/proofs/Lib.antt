@@ -1,0 +1,4 @@
+pub mod Finding
+pub mod UpTo
+pub mod DeclBody
+pub mod Targets

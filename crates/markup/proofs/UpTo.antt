@@ -1,0 +1,68 @@
+-- Everything up to the first place of a word, for any word and any check of what stands before it. Assumes nothing.
+use mathlib.Core.Path.{_≡_, refl, sym, ap, _∙_}
+use mathlib.Core.Bool.{Bool, true, false}
+use mathlib.Core.List.{List}
+use Prim.Native.Nat.{ℕ, _+_, _-_}
+use Prim.Native.String.{String}
+use native.Mathlib.Nat.{add-assoc}
+use native.Mathlib.Omega.{arith}
+use borrow.Author.Tests.{not-true, not-false}
+use lib.ListN.{length, take, drop}
+use Rattle.spec.specs.Grammar.Languages.{ascii}
+use Rattle.spec.specs.Reading.Refusals.{Refusal, number}
+use Rattle.spec.specs.Reading.Readers.{Result, ok, err, number-of, on-ok, nothing, refuse, starts, choose, word-of, before, up-to}
+use Rattle.spec.proofs.Base.Results.{number-pos}
+use Rattle.error.specs.Read.{placed, read}
+use Rattle.error.specs.declared.Answer.the-variants.{At, No}
+use Rattle.wellformed.proofs.Words.{word-yes, word-no, by-words}
+use Rattle.markup.specs.FirstPlace.{first-place}
+use Rattle.markup.specs.declared.places.Found.{Found}
+use Rattle.markup.specs.declared.places.Found.the-variants.{Here, Nowhere}
+use Rattle.markup.proofs.Finding.{was-nowhere, was-here, places-found}
+
+-- the word k was looked for from a place on, which gave r; m is what the check says of what stands before it
+module _ (k : String) (n : Refusal) (check : List ℕ → Result) (s : List ℕ) (at : ℕ) (r : Found) (a : r ≡ first-place (ascii k) s at) where
+  pub up-to-nowhere : (m : ℕ) → r ≡ Nowhere → m ≡ number n → No m ≡ read (up-to k n check) s at
+  unfolding read up-to refuse
+  up-to-nowhere m b e = rw (was-nowhere (ascii k) s at r a b, e)
+
+  module _ (j m : ℕ) (b : r ≡ Here j) (c : m ≡ number-of (check (take (j - at) (drop at s)))) where
+    up-to-here : (x : Result) → check (take (j - at) (drop at s)) ≡ x → placed at (on-ok x (λ _. ok (before (ascii k) (drop at s) + length (ascii k)))) ≡ read (up-to k n check) s at
+    unfolding read up-to
+    up-to-here x f =
+        let (g, h) = was-here (ascii k) s at r a j b in
+        let z : j - at ≡ before (ascii k) (drop at s) = omega arith in
+        rw (g, ← z, f)
+
+    pub up-to-taken : (l : ℕ) → m ≡ 0 → l ≡ length (ascii k) → At (j + l) ≡ read (up-to k n check) s at
+    up-to-taken l e d = go (check (take (j - at) (drop at s))) refl
+      where
+        go : (x : Result) → check (take (j - at) (drop at s)) ≡ x → At (j + l) ≡ read (up-to k n check) s at
+        go (ok i) f =
+            let (g, h) = was-here (ascii k) s at r a j b in
+            (rw (d, h, add-assoc)) ∙ up-to-here (ok i) f
+        go (err y) f = let z : number y ≡ 0 = sym (c ∙ ap number-of f) ∙ e in absurd (omega (arith, number-pos y))
+
+    pub up-to-refused : (m ≡ 0 → ⊥) → No m ≡ read (up-to k n check) s at
+    up-to-refused e = go (check (take (j - at) (drop at s))) refl
+      where
+        go : (x : Result) → check (take (j - at) (drop at s)) ≡ x → No m ≡ read (up-to k n check) s at
+        go (ok i) f = absurd (e (c ∙ ap number-of f))
+        go (err y) f = ap No (c ∙ ap number-of f) ∙ up-to-here (err y) f
+
+-- the bytes p stand at a place, as b says, and the code knows how many they are
+pub word-end : (p s : List ℕ) (at l : ℕ) (b : Bool) (n : Refusal) → b ≡ starts p (drop at s) → b ≡ true → l ≡ length p → At (at + l) ≡ read (word-of p n) s at
+word-end p s at l b n e f d = rw d (word-yes p s at b e n f)
+
+-- a check that refuses what a test holds of, and takes the rest
+module _ (t : List ℕ → Bool) (n : Refusal) (w : List ℕ) (b : Bool) (e : b ≡ t w) where
+  pub test-refused : (m : ℕ) → b ≡ true → m ≡ number n → m ≡ number-of (choose t (refuse n) nothing w)
+  unfolding choose refuse
+  test-refused m f g = g ∙ (rw (sym e ∙ f))
+
+  pub test-taken : b ≡ false → 0 ≡ number-of (choose t (refuse n) nothing w)
+  unfolding choose nothing
+  test-taken f = rw (sym e ∙ f)
+
+-- what code searches that reads up to a word
+pub ruleset upwards = (up-to-nowhere, up-to-taken, up-to-refused, test-refused, test-taken, word-end, word-no, not-true, not-false, places-found, by-words)

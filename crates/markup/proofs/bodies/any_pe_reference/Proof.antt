@@ -1,0 +1,32 @@
+-- `markup::bodies::any_pe_reference` meets its contract. The invariant: the bytes before i do not decide. Assumes nothing.
+use mathlib.Core.Path.{_≡_}
+use Prim.Native.Nat.{_-_}
+use lib.ListN.{length, drop}
+use Rattle.spec.specs.Reading.Dtd.{has-pe-reference}
+use Rattle.names.specs.Names.{dialect}
+use Rattle.markup.proofs.DeclBody.{percents}
+use Rattle.markup.proofs.bodies.any_pe_reference.Statement.{statement}
+use Rattle.markup.proofs.bodies.any_pe_reference.Tie as tie
+
+abbrev Inv-loop : tie.InvT-loop
+Inv-loop t names i₀ i = has-pe-reference (dialect names) (drop i t) ≡ has-pe-reference (dialect names) t
+
+abbrev μ-loop : tie.MeasureT-loop
+μ-loop t names i₀ i = length t - i
+
+pub any-pe-reference-spec : {M : Type 1} → statement M
+any-pe-reference-spec =
+    tie.close
+    (tie.spec
+    Inv-loop
+    μ-loop
+    (λ c. search percents)  -- loop-holds
+    (λ c. search percents)  -- shared-slice-read-b
+    (λ c. search percents)  -- add-i
+    (λ c κs. search percents)  -- begins-name-requires
+    (λ c. search percents)  -- returns
+    (λ c. search percents)  -- loop-less
+    (λ c. search percents)  -- loop-again
+    (λ c. search percents)  -- loop-less-2
+    (λ c. search percents)  -- loop-again-2
+    (λ c. search percents))  -- returns-2
