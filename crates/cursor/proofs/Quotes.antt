@@ -1,0 +1,170 @@
+-- Literals in either quote, for any check of the text between the quotes. Assumes nothing.
+use mathlib.Core.Path.{_≡_, refl, sym, ap, subst, _∙_}
+use mathlib.Core.Logic.{_⊎_, inl, inr}
+use mathlib.Core.Bool.{Bool, true, false, _||_, or-false, or-assoc}
+use mathlib.Core.List.{List, [], _∷_}
+use Prim.Native.Nat.{ℕ, _+_, _-_, _^_, _<_, _≤_}
+use native.Mathlib.Omega.{arith}
+use borrow.Author.Needs.{needs}
+use borrow.Author.Tests.{ltb-true, ltb-false}
+use mir.Syntax.{w64}
+use mir.Val.{Fits}
+use lib.Dec.{eqb, leb, ltb}
+use lib.ListN.{length, getD, take, drop, length-drop}
+use Rattle.spec.specs.Basics.{pick}
+use Rattle.spec.specs.Grammar.Literals.{pubid-char}
+use Rattle.spec.specs.Reading.Refusals.{Refusal, number, no-literal, unterminated, bad-pubid}
+use Rattle.spec.specs.Reading.Readers.{Result, ok, err, Reader, number-of, on-ok, past, _>>_, nothing, refuse, starts, choose, on, word-of, run, contains, before, up-to}
+use Rattle.spec.specs.Reading.Dtd.{parse-quoted, check-pubid}
+use Rattle.spec.proofs.Base.Tests.{decide, leb-true, leb-false, eqb-true, eqb-yes, eqb-no, or-cases, or-false-left, or-false-right}
+use Rattle.spec.proofs.Base.Places.{drop-at, drop-end}
+use Rattle.spec.proofs.Base.Results.{err-ok, ok-inj, number-pos}
+use Rattle.error.specs.Read.{read, placed}
+use Rattle.error.specs.declared.Answer.{Answer}
+use Rattle.error.specs.declared.Answer.the-variants.{At, No}
+use Rattle.error.proofs.Laws.{At≢No, At-inj}
+use Rattle.cursor.proofs.Finding.{before-in, found-in, found-not}
+
+-- either quote mark, as the code tests it
+abbrev quote : ℕ → Bool
+quote b = eqb b 34 || eqb b 39
+
+-- what is read after the mark q
+abbrev body : ℕ → (List ℕ → Result) → Reader
+body q check w = pick (contains (q ∷ []) w) (on-ok (check (take (before (q ∷ []) w) w)) (λ _. ok (before (q ∷ []) w + 1))) (err unterminated)
+
+picked : (t : Bool) (f g : Reader) (w : List ℕ) → pick t f g w ≡ pick t (f w) (g w)
+picked true f g w = refl
+picked false f g w = refl
+
+module _ (check : List ℕ → Result) where
+  quoted-none : parse-quoted check [] ≡ err no-literal
+  unfolding parse-quoted on choose starts word-of _>>_
+  quoted-none = refl
+
+  quoted-other : (b : ℕ) (w : List ℕ) → quote b ≡ false → parse-quoted check (b ∷ w) ≡ err no-literal
+  unfolding parse-quoted on choose starts word-of _>>_
+  quoted-other b w e = rw (or-false-left (eqb b 34) (eqb b 39) e, or-false-right (eqb b 34) (eqb b 39) e)
+
+  quoted-mark : (b : ℕ) (w : List ℕ) → quote b ≡ true → parse-quoted check (b ∷ w) ≡ past 1 (body b check w)
+  unfolding parse-quoted on choose starts word-of _>>_ up-to refuse
+  quoted-mark b w e = go (or-cases (eqb b 34) (eqb b 39) e)
+    where
+      go : (eqb b 34 ≡ true) ⊎ (eqb b 39 ≡ true) → parse-quoted check (b ∷ w) ≡ past 1 (body b check w)
+      go (inl f) = rw (eqb-true b 34 f) (ap (past 1) (picked (contains (34 ∷ []) w) _ _ w))
+      go (inr f) = rw (eqb-true b 39 f) (ap (past 1) (picked (contains (39 ∷ []) w) _ _ w))
+
+-- No literal at a place.
+module _ (check : List ℕ → Result) (s : List ℕ) (at m : ℕ) where
+  pub literal-none : length s ≤ at → m ≡ number no-literal → No m ≡ read (parse-quoted check) s at
+  unfolding read
+  literal-none h e = rw (drop-end s at h, quoted-none check, e)
+
+  module _ (h : at < length s) where
+    pub literal-other : quote (getD s at 0) ≡ false → m ≡ number no-literal → No m ≡ read (parse-quoted check) s at
+    unfolding read
+    literal-other n e = rw (drop-at s at h, quoted-other check (getD s at 0) (drop (at + 1) s) n, e)
+
+    pub literal-open : (e : ℕ) → quote (getD s at 0) ≡ true → e ≡ at + 1 + before (getD s at 0 ∷ []) (drop (at + 1) s) → length s ≤ e → m ≡ number unterminated → No m ≡ read (parse-quoted check) s at
+    unfolding read
+    literal-open e y f l g = rw (drop-at s at h, quoted-mark check (getD s at 0) (drop (at + 1) s) y, found-not (getD s at 0) s (at + 1) e f l, g)
+
+-- A literal from `at` to e.
+pub record Literal (s : List ℕ) (at e : ℕ) : Type 0 where
+  pub inside : at < length s
+  pub opens : quote (getD s at 0) ≡ true
+  pub closes : contains (getD s at 0 ∷ []) (drop (at + 1) s) ≡ true
+  pub ends : e ≡ at + 1 + before (getD s at 0 ∷ []) (drop (at + 1) s) + 1
+
+-- it is read as its text is checked
+literal-read : (check : List ℕ → Result) (s : List ℕ) (at e : ℕ) → Literal s at e
+    → read (parse-quoted check) s at ≡ placed at (on-ok (check (take (e - 1 - (at + 1)) (drop (at + 1) s))) (λ _. ok (e - at)))
+unfolding read
+literal-read check s at e l =
+    let n : e - 1 - (at + 1) ≡ before (getD s at 0 ∷ []) (drop (at + 1) s) = omega (arith, l .ends) in
+    let k : 1 + (before (getD s at 0 ∷ []) (drop (at + 1) s) + 1) ≡ e - at = omega (arith, l .ends) in
+    rw (drop-at s at (l .inside), quoted-mark check (getD s at 0) (drop (at + 1) s) (l .opens), l .closes, n) (ap (placed at) (go (check (take (before (getD s at 0 ∷ []) (drop (at + 1) s)) (drop (at + 1) s))) k))
+  where
+    go : (x : Result) → 1 + (before (getD s at 0 ∷ []) (drop (at + 1) s) + 1) ≡ e - at → past 1 (on-ok x (λ _. ok (before (getD s at 0 ∷ []) (drop (at + 1) s) + 1))) ≡ on-ok x (λ _. ok (e - at))
+    go (ok j) k = ap ok k
+    go (err n) k = refl
+
+pub literal-whole : (s : List ℕ) (at e : ℕ) → Literal s at e → At e ≡ read (parse-quoted nothing) s at
+unfolding nothing
+literal-whole s at e l = ap At (let k : e ≡ at + (e - at) = omega (arith, l .ends) in k) ∙ sym (literal-read nothing s at e l)
+
+pub literal-closed : (s : List ℕ) (at e : ℕ) → at < length s → quote (getD s at 0) ≡ true → e ≡ at + 1 + before (getD s at 0 ∷ []) (drop (at + 1) s) → e < length s → At (e + 1) ≡ read (parse-quoted nothing) s at
+literal-closed s at e h y f l = literal-whole s at (e + 1) (record { inside = h; opens = y; closes = found-in (getD s at 0) s (at + 1) e f l; ends = rw f })
+
+-- There is a literal at a place, or what stands there is refused whatever the check.
+data Quoted (s : List ℕ) (at : ℕ) : Type 0 where
+  is : (e : ℕ) → Literal s at e → Quoted s at
+  none : (n : Refusal) → ((check : List ℕ → Result) → parse-quoted check (drop at s) ≡ err n) → Quoted s at
+
+quoted : (s : List ℕ) (at : ℕ) → Quoted s at
+quoted s at = by-place (decide (ltb at (length s)))
+  where
+    by-close : at < length s → quote (getD s at 0) ≡ true → (contains (getD s at 0 ∷ []) (drop (at + 1) s) ≡ true) ⊎ (contains (getD s at 0 ∷ []) (drop (at + 1) s) ≡ false) → Quoted s at
+    by-close h y (inl c) = is _ (record { inside = h; opens = y; closes = c; ends = refl })
+    by-close h y (inr n) = none unterminated (λ check. rw (drop-at s at h, quoted-mark check (getD s at 0) (drop (at + 1) s) y, n))
+
+    by-mark : at < length s → (quote (getD s at 0) ≡ true) ⊎ (quote (getD s at 0) ≡ false) → Quoted s at
+    by-mark h (inl y) = by-close h y (decide (contains (getD s at 0 ∷ []) (drop (at + 1) s)))
+    by-mark h (inr n) = none no-literal (λ check. rw (drop-at s at h) (quoted-other check (getD s at 0) (drop (at + 1) s) n))
+
+    by-place : (ltb at (length s) ≡ true) ⊎ (ltb at (length s) ≡ false) → Quoted s at
+    by-place (inl h) = by-mark (ltb-true at (length s) h) (decide (quote (getD s at 0)))
+    by-place (inr h) = none no-literal (λ check. rw (drop-end s at (ltb-false at (length s) h)) (quoted-none check))
+
+refused-all : (check : List ℕ → Result) (s : List ℕ) (at : ℕ) (n : Refusal) → ((check : List ℕ → Result) → parse-quoted check (drop at s) ≡ err n) → read (parse-quoted check) s at ≡ No (number n)
+unfolding read
+refused-all check s at n f = rw (f check)
+
+-- The text of a literal, whose end e parse_quoted gave: its ends, and a check of it. For any check.
+module _ (e : ℕ) (r : Answer) (b : r ≡ At e) (s : List ℕ) (at : ℕ) (a : r ≡ read (parse-quoted nothing) s at) where
+  literal : Literal s at e
+  literal = go (quoted s at)
+    where
+      go : Quoted s at → Literal s at e
+      go (is i l) = subst (Literal s at) (At-inj (literal-whole s at i l ∙ sym a ∙ b)) l
+      go (none n f) = absurd (At≢No (sym b ∙ a ∙ refused-all nothing s at n f))
+
+  pub text-fits : length s < 2 ^ 64 → Fits w64 (at + 1)
+  text-fits h = omega (arith, literal .inside)
+
+  pub text-last : 1 ≤ e
+  text-last = omega (arith, literal .ends)
+
+  pub text-start : at + 1 ≤ e - 1
+  text-start = omega (arith, literal .ends)
+
+  pub text-end : e - 1 ≤ length s
+  text-end = omega (arith, literal .ends, literal .inside, length-drop (at + 1) s, before-in (getD s at 0) (drop (at + 1) s) (literal .closes))
+
+  module _ (check : List ℕ → Result) (m : ℕ) (n : m ≡ number-of (check (take (e - 1 - (at + 1)) (drop (at + 1) s)))) where
+    pub text-taken : m ≡ 0 → At e ≡ read (parse-quoted check) s at
+    text-taken z = sym (literal-read check s at e literal ∙ go (check (take (e - 1 - (at + 1)) (drop (at + 1) s))) (sym n ∙ z))
+      where
+        go : (x : Result) → number-of x ≡ 0 → placed at (on-ok x (λ _. ok (e - at))) ≡ At e
+        go (ok j) y = ap At (let k : at + (e - at) ≡ e = omega (arith, literal .ends) in k)
+        go (err j) y = absurd (omega (arith, number-pos j))
+
+    pub text-refused : (m ≡ 0 → ⊥) → No m ≡ read (parse-quoted check) s at
+    text-refused z = sym (literal-read check s at e literal ∙ go (check (take (e - 1 - (at + 1)) (drop (at + 1) s))) n)
+      where
+        go : (x : Result) → m ≡ number-of x → placed at (on-ok x (λ _. ok (e - at))) ≡ No m
+        go (ok j) y = absurd (z y)
+        go (err j) y = ap No (sym y)
+
+-- what is no literal has no text to check
+pub text-none : (check : List ℕ → Result) (s : List ℕ) (at k : ℕ) (r : Answer) → r ≡ read (parse-quoted nothing) s at → r ≡ No k → r ≡ read (parse-quoted check) s at
+text-none check s at k r a b = go (quoted s at)
+  where
+    go : Quoted s at → r ≡ read (parse-quoted check) s at
+    go (is e l) = absurd (At≢No (literal-whole s at e l ∙ sym a ∙ b))
+    go (none n f) = a ∙ refused-all nothing s at n f ∙ sym (refused-all check s at n f)
+
+-- what parse_quoted searches, and what checks the text of a literal
+pub ruleset quotes = (literal-none, literal-other, literal-open, literal-closed, needs)
+
+pub ruleset texts = (text-fits, text-last, text-start, text-end, text-taken, text-refused, text-none, needs)

@@ -1,0 +1,29 @@
+-- `cursor::literals::find_byte` meets its contract. The invariant: the first b from i on is the first from `at` on. Assumes nothing.
+use mathlib.Core.Path.{_≡_}
+use mathlib.Core.List.{[], _∷_}
+use Prim.Native.Nat.{_+_, _-_}
+use lib.ListN.{length, drop}
+use Rattle.spec.specs.Reading.Readers.{before}
+use Rattle.cursor.proofs.Finding.{finding}
+use Rattle.cursor.proofs.literals.find_byte.Statement.{statement}
+use Rattle.cursor.proofs.literals.find_byte.Tie as tie
+
+abbrev Inv-loop : tie.InvT-loop
+Inv-loop s at b i₀ i = i + before (b ∷ []) (drop i s) ≡ at + before (b ∷ []) (drop at s)
+
+abbrev μ-loop : tie.MeasureT-loop
+μ-loop s at b i₀ i = length s - i
+
+pub find-byte-spec : {M : Type 1} → statement M
+find-byte-spec =
+    tie.close
+    (tie.spec
+    Inv-loop
+    μ-loop
+    (λ c. search finding)  -- loop-holds
+    (λ c. search finding)  -- shared-slice-read-if1
+    (λ c. search finding)  -- returns
+    (λ c. search finding)  -- add-i
+    (λ c. search finding)  -- loop-less
+    (λ c. search finding)  -- loop-again
+    (λ c. search finding))  -- returns-2
