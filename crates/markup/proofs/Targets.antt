@@ -3,7 +3,7 @@ use mathlib.Core.Path.{_≡_, refl, sym, ap, _∙_}
 use mathlib.Core.Bool.{Bool, true, false, _&&_, _||_, not, or-false, or-assoc}
 use mathlib.Core.List.{List, [], _∷_}
 use Prim.Native.Nat.{ℕ, suc, _+_, _-_, _<_, _≤_}
-use native.Mathlib.Nat.{add-zero, zero-add}
+use native.Mathlib.Nat.{zero-add}
 use native.Mathlib.Omega.{arith}
 use borrow.Author.Needs.{needs}
 use lib.Dec.{eqb}
@@ -11,33 +11,12 @@ use lib.ListN.{length, getD, take, drop}
 use Rattle.spec.specs.Basics.{pick}
 use Rattle.spec.specs.Grammar.Languages.{ascii, none-of}
 use Rattle.spec.specs.Grammar.Names.{Dialect}
-use Rattle.spec.specs.Reading.Refusals.{number, bad-name, has-colon, reserved-target}
+use Rattle.spec.specs.Reading.Refusals.{number, has-colon, reserved-target}
 use Rattle.spec.specs.Reading.Readers.{Result, ok, err, number-of, past, _>>_, run, contains}
-use Rattle.spec.specs.Reading.Wellformed.{name, name-length, check-name}
+use Rattle.spec.specs.Reading.Wellformed.{check-name}
 use Rattle.spec.specs.Reading.Dtd.{reserved, check-target, check-pi}
 use Rattle.spec.proofs.Base.Results.{number-pos}
-use Rattle.spec.proofs.Wellformed.LongestName.{Named, a-name, no-name, named}
-use Rattle.error.specs.Read.{read}
-use Rattle.error.specs.declared.Answer.the-variants.{At, No}
 use Rattle.wellformed.proofs.Runs.{run-end, run-stop, run-go}
-
--- a name at a place, by where it ends
-module _ (D : Dialect) (s : List ℕ) (at e : ℕ) (f : e ≡ at + name-length D (drop at s)) where
-  pub name-missing : (m : ℕ) → e ≡ at → m ≡ number bad-name → No m ≡ read (name D) s at
-  unfolding read name-length
-  name-missing m z g = go (named D (drop at s))
-    where
-      go : Named D (drop at s) → No m ≡ read (name D) s at
-      go (a-name k p h t) = absurd (let y : e ≡ at + k = f ∙ (rw h) in omega arith)
-      go (no-name h n) = rw (h, g)
-
-  pub name-read : (e ≡ at → ⊥) → At e ≡ read (name D) s at
-  unfolding read name-length
-  name-read z = go (named D (drop at s))
-    where
-      go : Named D (drop at s) → At e ≡ read (name D) s at
-      go (a-name k p h t) = let y : e ≡ at + k = f ∙ (rw h) in rw (h, y)
-      go (no-name h n) = absurd (z (f ∙ (rw (h, add-zero))))
 
 -- a target: its name first, then its colon, then "xml"
 module _ (D : Dialect) (w : List ℕ) (n : ℕ) (a : n ≡ number-of (check-name D w)) where
@@ -123,7 +102,5 @@ unfolding check-pi
 target-part D w e m f g = g ∙ (let z : e - 0 ≡ run (none-of " \t\r\n") w = omega arith in rw z)
 
 -- what code over names and targets searches
-pub ruleset names-read = (name-missing, name-read, needs)
-
 pub ruleset targets =
     (target-unnamed, target-colon, target-reserved, target-taken, reserved-long, reserved-three, target-whole, target-stop, target-go, run-within, target-part, needs)

@@ -14,4 +14,3 @@ pub use places::Found;
 pub use places::find;
 pub use places::has;
 pub use references::parse_pe_reference;
-pub use references::read_name;

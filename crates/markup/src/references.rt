@@ -1,24 +1,12 @@
 // Parameter-entity references.
+use cursor::need_name;
 use error::Answer;
 use names::Names;
-use names::name_end;
 use wellformed::at_keyword;
 ghost use mathlib.Core.Path.{_≡_};
-ghost use Rattle.spec.specs.Reading.Wellformed.{name};
 ghost use Rattle.spec.specs.Reading.Dtd.{parse-pe-reference};
 ghost use Rattle.error.specs.Read.{read};
 ghost use Rattle.names.specs.Names.{dialect};
-
-// Cursor's parse_name, [5] Name: the place after the name at `at`, which is refused where none begins.
-pub fn read_name(s: &[u8], at: usize, names: Names) -> Answer
-    ensures { λ r. ⌜ r ≡ read (name (dialect names)) (now (s .entry)) at ⌝ }
-{
-    let e = name_end(s, at, names);
-    if e == at {
-        return Answer::No(error::BAD_NAME);
-    }
-    Answer::At(e)
-}
 
 // parse_pe_reference, [69] PEReference.
 pub fn parse_pe_reference(s: &[u8], at: usize, names: Names) -> Answer
@@ -27,7 +15,7 @@ pub fn parse_pe_reference(s: &[u8], at: usize, names: Names) -> Answer
     if !at_keyword(s, at, b"%") {
         return Answer::No(error::UNEXPECTED);
     }
-    let r = read_name(s, at + 1, names);
+    let r = need_name(s, at + 1, names);
     let Answer::At(e) = r else {
         return r;
     };

@@ -13,7 +13,7 @@ parse-pe-reference-spec =
     (λ c κs. search upwards)  -- at-keyword-requires
     (λ c. search upwards)  -- returns
     (λ c. search upwards)  -- add-read-name
-    (λ c κs. search upwards)  -- read-name-requires
+    (λ c κs. search upwards)  -- need-name-requires
     (λ c. search upwards)  -- enum-known-r
     (λ c. search upwards)  -- enum-told
     (λ c. search upwards)  -- returns-2
