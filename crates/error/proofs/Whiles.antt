@@ -1,0 +1,90 @@
+-- A reader again and again while a test holds, and then another: what such a loop in the code comes to. Assumes nothing.
+use mathlib.Core.Path.{_≡_, refl, sym, ap, _∙_}
+use mathlib.Core.Bool.{Bool, true, false, true≢false}
+use mathlib.Core.List.{List, [], _∷_}
+use Prim.Native.Nat.{ℕ, _+_, _-_, _<_}
+use native.Mathlib.Nat.{add-zero}
+use native.Mathlib.Omega.{arith}
+use borrow.Author.Needs.{needs}
+use lib.ListN.{length, drop, length-drop}
+use lib.Seq.{drop-drop}
+use Rattle.spec.specs.Reading.Readers.{Result, ok, err, Reader, on-ok, past, _>>_, while}
+use Rattle.spec.proofs.Base.Loops.{Somes, while-turn, while-stop, while-refused}
+use Rattle.spec.proofs.Base.Results.{past-past}
+use Rattle.error.specs.Read.{read, placed}
+use Rattle.error.specs.declared.Answer.{Answer}
+use Rattle.error.specs.declared.Answer.the-variants.{At, No}
+use Rattle.error.proofs.Laws.{was-ok, seq-no, seq-at}
+
+-- three readers, one after the other
+then-then : (A B C : Reader) (w : List ℕ) → ((A >> B) >> C) w ≡ (A >> B >> C) w
+unfolding _>>_
+then-then A B C w = first (A w)
+  where
+    second : (k : ℕ) (x : Result) → on-ok (past k x) (λ j. past j (C (drop j w))) ≡ past k (on-ok x (λ j. past j (C (drop j (drop k w)))))
+    second k (err n) = refl
+    second k (ok j) = sym (past-past k j (C (drop j (drop k w))) ∙ ap (λ (v : List ℕ). past (k + j) (C v)) (drop-drop j k w))
+
+    first : (x : Result) → on-ok (on-ok x (λ k. past k (B (drop k w)))) (λ j. past j (C (drop j w))) ≡ on-ok x (λ k. past k ((B >> C) (drop k w)))
+    first (err n) = refl
+    first (ok k) = second k (B (drop k w))
+
+-- A turn takes a byte or more, where the test holds.
+module _ (t : List ℕ → Bool) (r : Reader) (ends : t [] ≡ false) (some : Somes r) where
+  turn-some : (x : List ℕ) (j : ℕ) → t x ≡ true → r x ≡ ok j → 0 < j
+  turn-some [] j e f = absurd (true≢false (sym e ∙ ends))
+  turn-some (b ∷ x) j e f = some .some b x j f
+
+  -- a turn, and then the loop again
+  pub unroll : (w : List ℕ) → t w ≡ true → while t r w ≡ (r >> while t r) w
+  unfolding _>>_
+  unroll w e = go (r w) refl
+    where
+      go : (x : Result) → r w ≡ x → while t r w ≡ (r >> while t r) w
+      go (ok k) f = while-turn t r ends turn-some w k e f ∙ (rw f)
+      go (err n) f = while-refused t r ends w n e f ∙ (rw f)
+
+  unroll-then : (B : Reader) (w : List ℕ) → t w ≡ true → (while t r >> B) w ≡ (r >> while t r >> B) w
+  unroll-then B w e = rw (← then-then r (while t r) B w) (unfold _>>_ in (rw (unroll w e)))
+
+-- at a place, where the first turn stands before the loop
+pub while-first : (t : List ℕ → Bool) (r B : Reader) (s : List ℕ) (i : ℕ) (b : Bool) (q : Answer) → t [] ≡ false → Somes r → b ≡ t (drop i s) → b ≡ true → q ≡ read (while t r >> B) s i → q ≡ read (r >> while t r >> B) s i
+unfolding read
+while-first t r B s i b q ends some e f a = a ∙ ap (placed i) (unroll-then t r ends some B (drop i s) (sym e ∙ f))
+
+-- The invariant: the answer from i on is the whole answer W. b is what the code's test says at i.
+module _ (t : List ℕ → Bool) (r B : Reader) (s : List ℕ) (i : ℕ) (W : Answer) (inv : read (while t r >> B) s i ≡ W) (b : Bool) (e : b ≡ t (drop i s)) where
+  pub while-end : (q : Answer) → b ≡ false → q ≡ read B s i → q ≡ W
+  while-end q f a = seq-at (while t r) B s i i (At i) q (unfold read in (rw (while-stop t r (drop i s) (sym e ∙ f), add-zero))) refl a ∙ inv
+
+  module _ (f : b ≡ true) (ends : t [] ≡ false) where
+    inside : i < length s
+    inside = go (drop i s) (length-drop i s) (sym e ∙ f)
+      where
+        go : (w : List ℕ) → length w ≡ length s - i → t w ≡ true → i < length s
+        go [] l g = absurd (true≢false (sym g ∙ ends))
+        go (c ∷ w) l g = omega arith
+
+    module _ (some : Somes r) where
+      turned : read (r >> while t r >> B) s i ≡ W
+      turned = sym (while-first t r B s i b _ ends some e f refl) ∙ inv
+
+      pub while-no : (n : ℕ) (a : Answer) → a ≡ No n → a ≡ read r s i → a ≡ W
+      while-no n a g h = seq-no r (while t r >> B) s i n a h g ∙ turned
+
+      pub while-err : (n : ℕ) → No n ≡ read r s i → No n ≡ W
+      while-err n h = while-no n (No n) refl h
+
+      module _ (j : ℕ) (h : At j ≡ read r s i) where
+        pub while-go : read (while t r >> B) s j ≡ W
+        while-go = seq-at r (while t r >> B) s i j (At j) _ h refl refl ∙ turned
+
+        pub while-less : length s - j < length s - i
+        while-less =
+            let (k, (g, l)) = was-ok r s i j (At j) h refl in
+            let z : 0 < k = turn-some t r ends some (drop i s) k (sym e ∙ f) g in
+            let y = inside in
+            omega arith
+
+-- what such a loop searches, with what its turn and the reader after it search
+pub ruleset whiles = (while-end, while-no, while-err, while-go, while-less, needs)
