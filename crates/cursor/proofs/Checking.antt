@@ -14,7 +14,6 @@ use Rattle.spec.specs.Reading.Readers.{number-of, refuse, choose, run, contains
 use Rattle.spec.specs.Reading.Wellformed.{check-char-refs}
 use Rattle.spec.specs.Reading.Dtd.{check-pubid, check-att-value}
 use Rattle.spec.proofs.Base.Tests.{eqb-yes, eqb-no}
-use Rattle.spec.proofs.Base.Places.{drop-at, drop-end}
 use Rattle.wellformed.proofs.Runs.{run-end}
 use Rattle.cursor.proofs.Spaces.{class-stop, class-go}
 

@@ -43,4 +43,5 @@ pub end-no : (n : Refusal) (m : ℕ) (s : List ℕ) (at : ℕ) → at < length s
 unfolding read at-end
 end-no n m s at h e = rw (drop-at s at h, e)
 
+-- what eat_str and at_end search
 pub ruleset eating = (eat-yes, eat-no, eat-fits, end-yes, end-no, needs)

@@ -48,7 +48,9 @@ module _ (b : ℕ) (s : List ℕ) (at e : ℕ) (h : e ≡ at + before (b ∷ [])
   pub found-not : length s ≤ e → contains (b ∷ []) (drop at s) ≡ false
   found-not l = has-before b (drop at s) ∙ leb-no (suc (before (b ∷ []) (drop at s))) (length (drop at s)) (omega (arith, length-drop at s))
 
+-- the same from the start
 pub found-any : (b : ℕ) (s : List ℕ) (e : ℕ) → e ≡ 0 + before (b ∷ []) (drop 0 s) → ltb e (length s) ≡ contains (b ∷ []) s
 found-any b s e h = let z : e ≡ before (b ∷ []) s = omega arith in (rw (z, has-before b s))
 
+-- what find_byte and has_byte search
 pub ruleset finding = (find-end, find-here, find-on, found-any, needs)

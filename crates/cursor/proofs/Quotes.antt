@@ -1,7 +1,7 @@
 -- Literals in either quote, for any check of the text between the quotes. Assumes nothing.
 use mathlib.Core.Path.{_≡_, refl, sym, ap, subst, _∙_}
 use mathlib.Core.Logic.{_⊎_, inl, inr}
-use mathlib.Core.Bool.{Bool, true, false, _||_, or-false, or-assoc}
+use mathlib.Core.Bool.{Bool, true, false, _||_}
 use mathlib.Core.List.{List, [], _∷_}
 use Prim.Native.Nat.{ℕ, _+_, _-_, _^_, _<_, _≤_}
 use native.Mathlib.Omega.{arith}
@@ -9,16 +9,15 @@ use borrow.Author.Needs.{needs}
 use borrow.Author.Tests.{ltb-true, ltb-false}
 use mir.Syntax.{w64}
 use mir.Val.{Fits}
-use lib.Dec.{eqb, leb, ltb}
+use lib.Dec.{eqb, ltb}
 use lib.ListN.{length, getD, take, drop, length-drop}
 use Rattle.spec.specs.Basics.{pick}
-use Rattle.spec.specs.Grammar.Literals.{pubid-char}
-use Rattle.spec.specs.Reading.Refusals.{Refusal, number, no-literal, unterminated, bad-pubid}
-use Rattle.spec.specs.Reading.Readers.{Result, ok, err, Reader, number-of, on-ok, past, _>>_, nothing, refuse, starts, choose, on, word-of, run, contains, before, up-to}
-use Rattle.spec.specs.Reading.Dtd.{parse-quoted, check-pubid}
-use Rattle.spec.proofs.Base.Tests.{decide, leb-true, leb-false, eqb-true, eqb-yes, eqb-no, or-cases, or-false-left, or-false-right}
+use Rattle.spec.specs.Reading.Refusals.{Refusal, number, no-literal, unterminated}
+use Rattle.spec.specs.Reading.Readers.{Result, ok, err, Reader, number-of, on-ok, past, _>>_, nothing, refuse, starts, choose, on, word-of, contains, before, up-to}
+use Rattle.spec.specs.Reading.Dtd.{parse-quoted}
+use Rattle.spec.proofs.Base.Tests.{decide, eqb-true, or-cases, or-false-left, or-false-right}
 use Rattle.spec.proofs.Base.Places.{drop-at, drop-end}
-use Rattle.spec.proofs.Base.Results.{err-ok, ok-inj, number-pos}
+use Rattle.spec.proofs.Base.Results.{number-pos}
 use Rattle.error.specs.Read.{read, placed}
 use Rattle.error.specs.declared.Answer.{Answer}
 use Rattle.error.specs.declared.Answer.the-variants.{At, No}
@@ -89,6 +88,7 @@ literal-read check s at e l =
     go (ok j) k = ap ok k
     go (err n) k = refl
 
+-- to e, if nothing is checked
 pub literal-whole : (s : List ℕ) (at e : ℕ) → Literal s at e → At e ≡ read (parse-quoted nothing) s at
 unfolding nothing
 literal-whole s at e l = ap At (let k : e ≡ at + (e - at) = omega (arith, l .ends) in k) ∙ sym (literal-read nothing s at e l)

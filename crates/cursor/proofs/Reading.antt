@@ -35,6 +35,9 @@ module _ (kw : List ℕ) (s : List ℕ) (at : ℕ) (r : Answer) (n : Refusal) (a
   pub ate-stop : (B : Reader) (k : ℕ) → r ≡ No k → r ≡ read (word-of kw n >> B) s at
   ate-stop B k e = seq-no (word-of kw n) B s at k r ate-last e
 
--- What code that reads one thing after another searches. Of laws with as many premises the first is tried first.
+-- What code that reads one thing after another searches: of laws with as many premises the first is tried first. Six readers are found.
 pub ruleset reading =
-    (skip-then, skip-only, ate-last, ate-next, seq-at, seq-no, ate-not, ate-then, ate-only, choose-yes, choose-no, refused, took-nothing, needs)
+    (skip-then, skip-only, ate-stop, ate-next, seq-at, seq-no, ate-last, ate-not, ate-then, ate-only, choose-yes, choose-no, refused, took-nothing, needs)
+
+-- Of these, the laws for an answer that ends a chain: where a search in all of them breaks off, one in these may not.
+pub ruleset onward = (skip-then, skip-only, ate-next, seq-at, ate-last, ate-not, ate-then, ate-only, choose-yes, choose-no, refused, took-nothing)

@@ -5,8 +5,6 @@ mod tokens;
 mod words;
 
 pub use literals::check_pubid;
-pub use literals::find_byte;
-pub use literals::has_byte;
 pub use literals::parse_att_value;
 pub use literals::parse_entity_value;
 pub use literals::parse_external_id;
@@ -20,3 +18,5 @@ pub use tokens::need_ncname;
 pub use tokens::need_nmtoken;
 pub use words::at_end;
 pub use words::eat_str;
+pub use words::find_byte;
+pub use words::has_byte;

@@ -2,6 +2,8 @@
 // parse_att_value do with the text between the quotes, of dtd.rs.
 use crate::space::require_s;
 use crate::words::eat_str;
+use crate::words::find_byte;
+use crate::words::has_byte;
 use error::ACCEPTED;
 use error::Answer;
 use error::BAD_PUBID;
@@ -11,35 +13,12 @@ use error::UNEXPECTED;
 use error::UNTERMINATED;
 use wellformed::char_refs_number;
 ghost use mathlib.Core.Path.{_≡_};
-ghost use mathlib.Core.List.{[], _∷_};
-ghost use Prim.Native.Nat.{_+_};
-ghost use lib.ListN.{drop};
 ghost use Rattle.spec.specs.Grammar.Literals.{pubid-char};
-ghost use Rattle.spec.specs.Reading.Readers.{number-of, nothing, contains, before};
+ghost use Rattle.spec.specs.Reading.Readers.{number-of, nothing};
 ghost use Rattle.spec.specs.Reading.Wellformed.{check-char-refs};
 ghost use Rattle.spec.specs.Reading.Dtd.{parse-quoted, check-pubid, parse-external-id, check-att-value};
 ghost use Rattle.error.specs.Read.{read};
 ghost use Rattle.cursor.specs.Spaced.{spaced-literal};
-
-// The place of the first b from `at` on; where there is none, the text's end, or `at` past it.
-pub fn find_byte(s: &[u8], at: usize, b: u8) -> usize
-    ensures { λ r. ⌜ r ≡ at + before (b ∷ []) (drop at (now (s .entry))) ⌝ }
-{
-    let mut i = at;
-    while i < s.len() {
-        if s[i] == b {
-            return i;
-        }
-        i += 1;
-    }
-    i
-}
-
-pub fn has_byte(t: &[u8], b: u8) -> bool
-    ensures { λ r. ⌜ r ≡ contains (b ∷ []) (now (t .entry)) ⌝ }
-{
-    find_byte(t, 0, b) < t.len()
-}
 
 // A literal in either quote, [11] SystemLiteral; its text is not looked at.
 pub fn parse_quoted(s: &[u8], at: usize) -> Answer

@@ -1,5 +1,5 @@
 // Names at a place: parse_name, parse_nmtoken and reject_colon of dtd.rs.
-use crate::literals::has_byte;
+use crate::words::has_byte;
 use error::Answer;
 use error::BAD_NAME;
 use error::HAS_COLON;

@@ -1,4 +1,5 @@
--- `cursor::literals::check_pubid` meets its contract. The invariant: the bytes of the class from i on end where those from the start on do; i stays within the text. Assumes nothing.
+-- `cursor::literals::check_pubid` meets its contract. The invariant: the PubidChars from i on end where those from the
+-- start on do, and i lies within the text. Assumes nothing.
 use mathlib.Core.Path.{_≡_}
 use Prim.Native.Nat.{_+_, _-_, _≤_}
 use lib.ListN.{length, drop}

@@ -1,12 +1,12 @@
--- `cursor::literals::find_byte` meets its contract. The invariant: the first b from i on is the first from `at` on. Assumes nothing.
+-- `cursor::words::find_byte` meets its contract. The invariant: the first b from i on is the first from `at` on. Assumes nothing.
 use mathlib.Core.Path.{_≡_}
 use mathlib.Core.List.{[], _∷_}
 use Prim.Native.Nat.{_+_, _-_}
 use lib.ListN.{length, drop}
 use Rattle.spec.specs.Reading.Readers.{before}
 use Rattle.cursor.proofs.Finding.{finding}
-use Rattle.cursor.proofs.literals.find_byte.Statement.{statement}
-use Rattle.cursor.proofs.literals.find_byte.Tie as tie
+use Rattle.cursor.proofs.words.find_byte.Statement.{statement}
+use Rattle.cursor.proofs.words.find_byte.Tie as tie
 
 abbrev Inv-loop : tie.InvT-loop
 Inv-loop s at b i₀ i = i + before (b ∷ []) (drop i s) ≡ at + before (b ∷ []) (drop at s)

@@ -1,7 +1,7 @@
--- `cursor::literals::has_byte` meets its contract. Assumes nothing.
+-- `cursor::words::has_byte` meets its contract. Assumes nothing.
 use Rattle.cursor.proofs.Finding.{finding}
-use Rattle.cursor.proofs.literals.has_byte.Statement.{statement}
-use Rattle.cursor.proofs.literals.has_byte.Tie as tie
+use Rattle.cursor.proofs.words.has_byte.Statement.{statement}
+use Rattle.cursor.proofs.words.has_byte.Tie as tie
 
 pub has-byte-spec : {M : Type 1} → statement M
 has-byte-spec =
