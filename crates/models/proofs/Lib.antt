@@ -1,0 +1,4 @@
+pub mod Signs
+pub mod Occurs
+pub mod Groups
+pub mod Contentspecs
