@@ -1,0 +1,4 @@
+pub mod Bars
+pub mod Keywords
+pub mod Looking
+pub mod Defining
