@@ -29,6 +29,9 @@ fn number(word: &[u8], text: &[u8]) -> Reply {
     if bytes::same(word, b"check_char_refs") {
         return Reply::Number(wellformed::check_char_refs(text));
     }
+    if bytes::same(word, b"check_doctype") {
+        return Reply::Number(dtd::check_doctype(text));
+    }
     if bytes::same(word, b"check_name") {
         return Reply::Number(names::check_name(text));
     }

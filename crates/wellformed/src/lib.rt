@@ -15,6 +15,7 @@ pub use chars::chars_number;
 pub use chars::check_suspect_byte;
 pub use chars::is_xml_char;
 pub use keywords::at_keyword;
+pub use numbers::number;
 pub use references::char_refs_number;
 pub use references::check_char_ref_at;
 pub use text::attr_value_number;

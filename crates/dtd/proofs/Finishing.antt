@@ -1,0 +1,102 @@
+-- A declaration from its keyword to its '>', for any reader of its body. Assumes nothing.
+use mathlib.Core.Path.{_≡_, refl, sym, ap, _∙_}
+use mathlib.Core.Bool.{Bool, true, false, _||_}
+use mathlib.Core.List.{List, [], _∷_}
+use Prim.Native.Nat.{ℕ, zero, suc, _+_, _-_, _^_, _<_, _≤_}
+use native.Mathlib.Omega.{arith}
+use borrow.Author.Needs.{needs}
+use mir.Syntax.{w64}
+use mir.Val.{Fits}
+use lib.Dec.{eqb}
+use lib.ListN.{length, take, drop, length-drop}
+use Rattle.spec.specs.Basics.{pick}
+use Rattle.spec.specs.Grammar.Languages.{one-of}
+use Rattle.spec.specs.Grammar.Names.{Dialect}
+use Rattle.spec.specs.Reading.Refusals.{number, unterminated}
+use Rattle.spec.specs.Reading.Readers.{Result, ok, err, Reader, on-ok, past, nothing}
+use Rattle.spec.specs.Reading.Dtd.{take-decl-body, has-pe-reference, finish-decl}
+use Rattle.spec.proofs.Base.Results.{err-ok, ok-inj, past-ok}
+use Rattle.error.specs.Read.{placed, read}
+use Rattle.error.specs.declared.Answer.{Answer}
+use Rattle.error.specs.declared.Answer.the-variants.{At, No}
+use Rattle.error.proofs.Laws.{was-ok, was-err}
+
+-- the '>' that ends a body stands in the text
+body-within : (q k : ℕ) (w : List ℕ) → take-decl-body q w ≡ ok k → k < length w
+unfolding take-decl-body
+body-within q k [] e = absurd (err-ok unterminated k e)
+body-within zero k (b ∷ w) e = by-end (one-of ">" b) e (λ p j. body-within p j w)
+  where
+    by-end : (t : Bool) → pick t (ok 0) (past 1 (take-decl-body (pick (one-of "\"'" b) b 0) w)) ≡ ok k → ((p j : ℕ) → take-decl-body p w ≡ ok j → j < length w) → k < suc (length w)
+    by-end true f ih = let z : 0 ≡ k = ok-inj 0 k f in omega arith
+    by-end false f ih =
+        let (m, g) = past-ok 1 k (take-decl-body (pick (one-of "\"'" b) b 0) w) f in
+        let z : 1 + m ≡ k = ok-inj (1 + m) k (sym (ap (past 1) g) ∙ f) in
+        let l = ih (pick (one-of "\"'" b) b 0) m g in
+        omega arith
+body-within (suc q) k (b ∷ w) e =
+    let (m, g) = past-ok 1 k (take-decl-body (pick (eqb b (suc q)) 0 (suc q)) w) e in
+    let z : 1 + m ≡ k = ok-inj (1 + m) k (sym (ap (past 1) g) ∙ e) in
+    let l = body-within (pick (eqb b (suc q)) 0 (suc q)) m w g in
+    omega arith
+
+-- r is what take_decl_body gave: the body's end
+module _ (s : List ℕ) (at : ℕ) (r : Answer) (a : r ≡ read (take-decl-body 0) s at) (end : ℕ) (e : r ≡ At end) where
+  -- what the code's answer says: the body has k bytes
+  body-ok : take-decl-body 0 (drop at s) ≡ ok (end - at)
+  body-ok = let (k, (f, g)) = was-ok (take-decl-body 0) s at end r a e in f ∙ ap ok (let z : k ≡ end - at = omega arith in z)
+
+  end-is : end ≡ at + (end - at)
+  end-is = let (k, (f, g)) = was-ok (take-decl-body 0) s at end r a e in omega arith
+
+  body-in : end < length s
+  body-in =
+      let h = simp length-drop at (body-within 0 (end - at) (drop at s) body-ok) in
+      let g = end-is in
+      omega arith
+
+  pub body-from : at ≤ end
+  body-from = omega (arith, end-is)
+
+  pub body-to : end ≤ length s
+  body-to = omega (arith, body-in)
+
+  pub finish-fits : length s < 2 ^ 64 → Fits w64 (end + 1)
+  finish-fits l = let h = body-in in omega arith
+
+module _ (D : Dialect) (B : Reader) (pe : Bool) (s : List ℕ) (at : ℕ) (r : Answer) (a : r ≡ read (take-decl-body 0) s at) where
+  pub finish-no : (n : ℕ) → r ≡ No n → r ≡ read (finish-decl D pe B) s at
+  unfolding read finish-decl
+  finish-no n e = let (m, (f, g)) = was-err (take-decl-body 0) s at n r a e in g ∙ (rw f)
+
+  module _ (end : ℕ) (e : r ≡ At end) where
+    -- what is answered after the body, by whether it is read
+    after-body : (t : Bool) → (pe || has-pe-reference D (take (end - at) (drop at s))) ≡ t
+        → read (finish-decl D pe B) s at ≡ placed at (on-ok (pick t nothing B (take (end - at) (drop at s))) (λ _. ok (end - at + 1)))
+    unfolding read finish-decl
+    after-body t f = rw (body-ok s at r a end e, f)
+
+    end-place : At (end + 1) ≡ placed at (ok (end - at + 1))
+    end-place = ap At (let g = end-is s at r a end e in let z : end + 1 ≡ at + (end - at + 1) = omega arith in z)
+
+    pub finish-used : pe ≡ true → At (end + 1) ≡ read (finish-decl D pe B) s at
+    unfolding nothing
+    finish-used f = end-place ∙ sym (after-body true (rw f))
+
+    module _ (n : pe ≡ false) (t : Bool) (h : t ≡ has-pe-reference D (take (end - at) (drop at s))) where
+      pub finish-unread : t ≡ true → At (end + 1) ≡ read (finish-decl D pe B) s at
+      unfolding nothing
+      finish-unread f = end-place ∙ sym (after-body true (rw (n, sym h ∙ f)))
+
+      module _ (f : t ≡ false) (q : Answer) (b : q ≡ read B (take (end - at) (drop at s)) 0) where
+        pub finish-refused : (m : ℕ) → q ≡ No m → q ≡ read (finish-decl D pe B) s at
+        finish-refused m g =
+            let (x, (i, j)) = was-err B (take (end - at) (drop at s)) 0 m q b g in
+            j ∙ sym (after-body false (rw (n, sym h ∙ f)) ∙ (rw i))
+
+        pub finish-read : (m : ℕ) → q ≡ At m → At (end + 1) ≡ read (finish-decl D pe B) s at
+        finish-read m g =
+            let (x, (i, j)) = was-ok B (take (end - at) (drop at s)) 0 m q b g in
+            end-place ∙ sym (after-body false (rw (n, sym h ∙ f)) ∙ (rw i))
+
+pub ruleset finishing = (finish-no, finish-used, finish-unread, finish-refused, finish-read, finish-fits, body-from, body-to, needs)

@@ -1,0 +1,4 @@
+pub mod Bodies
+pub mod Finishing
+pub mod Looping
+pub mod Whole

@@ -1,0 +1,46 @@
+-- The parts of the whole DOCTYPE, and its agreement with the grammar. Assumes nothing.
+use mathlib.Core.Path.{_≡_, sym, _∙_}
+use mathlib.Core.Bool.{Bool, true, false, _||_}
+use mathlib.Core.List.{List}
+use Prim.Native.Nat.{ℕ}
+use lib.ListN.{drop}
+use Rattle.spec.specs.Grammar.Languages.{ascii}
+use Rattle.spec.specs.Grammar.AppendixB.{appendix-B}
+use Rattle.spec.specs.Grammar.Doctype.{doctypedecl}
+use Rattle.spec.specs.Reading.Readers.{_>>_, nothing, number-of, starts, choose}
+use Rattle.spec.specs.Reading.Dtd.{skip-s, parse-external-id, check-doctype}
+use Rattle.spec.proofs.Agreement.Accepts.{Agrees}
+use Rattle.spec.proofs.Characters.AppendixB.{appendix-B-ascii}
+use Rattle.spec.proofs.Dtd.Texts.{doctype-agrees}
+use Rattle.error.specs.Read.{read}
+use Rattle.error.specs.declared.Answer.{Answer}
+use Rattle.source.proofs.Admitting.{calling}
+use Rattle.names.specs.Names.{dialect}
+use Rattle.names.specs.declared.classes.Names.the-variants.{AppendixB}
+use Rattle.wellformed.specs.Numbers.{answer-number}
+use Rattle.wellformed.proofs.Steps.{answered}
+use Rattle.cursor.proofs.Reading.{reading}
+use Rattle.dtd.specs.Kinds.{id-part}
+
+-- an external identifier stands at a place, by either of its words, or none does
+module _ (s : List ℕ) (at : ℕ) (a b : Bool) (e : a ≡ starts (ascii "SYSTEM") (drop at s)) (f : b ≡ starts (ascii "PUBLIC") (drop at s)) (q : Answer) where
+  pub id-yes : (a || b) ≡ true → q ≡ read (parse-external-id >> skip-s) s at → q ≡ read id-part s at
+  unfolding read choose id-part
+  id-yes g h = rw (sym e, sym f, g) h
+
+  pub id-no : (a || b) ≡ false → q ≡ read nothing s at → q ≡ read id-part s at
+  unfolding read choose id-part
+  id-no g h = rw (sym e, sym f, g) h
+
+-- the check of this dialect accepts what its grammar derives
+pub whole-agrees : Agrees (check-doctype appendix-B) (doctypedecl appendix-B)
+whole-agrees = doctype-agrees appendix-B appendix-B-ascii
+
+pub whole-number : (s : List ℕ) (r : Answer) (m : ℕ) → r ≡ read (check-doctype (dialect AppendixB)) s 0 → m ≡ answer-number r → m ≡ number-of (check-doctype appendix-B s)
+unfolding dialect
+whole-number s r m a e = e ∙ answered (check-doctype appendix-B) s r a
+
+-- what the parts search, and the public call
+pub ruleset parts-read = (id-yes, id-no, reading)
+
+pub ruleset whole = (whole-agrees, whole-number, calling)

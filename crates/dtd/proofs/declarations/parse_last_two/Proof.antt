@@ -1,0 +1,25 @@
+-- `dtd::declarations::parse_last_two` meets its contract. Assumes nothing.
+use Rattle.spec.specs.Reading.Readers.{on}
+use Rattle.dtd.specs.Kinds.{body-of, last-two}
+use Rattle.cursor.proofs.Reading.{reading}
+use Rattle.dtd.proofs.declarations.parse_last_two.Statement.{statement}
+use Rattle.dtd.proofs.declarations.parse_last_two.Tie as tie
+
+pub parse-last-two-spec : {M : Type 1} → statement M
+unfolding on last-two body-of
+parse-last-two-spec =
+    tie.close
+    (tie.spec
+    (λ c. search reading)  -- slice-aggregate-eat-str
+    (λ c κs. search reading)  -- eat-str-requires
+    (λ c. search reading)  -- enum-known-r
+    (λ c κs. search reading)  -- finish-decl-requires
+    (λ c. search reading)  -- returns
+    (λ c. search reading)  -- enum-told
+    (λ c. search reading)  -- slice-aggregate-eat-str-2
+    (λ c κs. search reading)  -- eat-str-requires-2
+    (λ c. search reading)  -- enum-known-r-2
+    (λ c. search reading)  -- enum-told-2
+    (λ c. search reading)  -- returns-2
+    (λ c κs. search reading)  -- finish-decl-requires-2
+    (λ c. search reading))  -- returns-3

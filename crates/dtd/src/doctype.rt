@@ -1,0 +1,84 @@
+// The whole DOCTYPE: check_doctype of dtd.rs.
+use crate::subset::parse_internal_subset;
+use cursor::at_end;
+use cursor::eat_str;
+use cursor::need_name;
+use cursor::parse_external_id;
+use cursor::skip_s;
+use error::ACCEPTED;
+use error::Answer;
+use error::UNEXPECTED;
+use names::Names;
+use source::admit;
+use wellformed::at_keyword;
+use wellformed::number;
+ghost use mathlib.Core.Path.{_≡_};
+ghost use Rattle.spec.specs.Grammar.AppendixB.{appendix-B};
+ghost use Rattle.spec.specs.Grammar.Doctype.{doctypedecl};
+ghost use Rattle.spec.specs.Reading.Dtd.{check-doctype};
+ghost use Rattle.spec.specs.Promises.{Checks};
+ghost use Rattle.error.specs.Read.{read};
+ghost use Rattle.names.specs.Names.{dialect};
+ghost use Rattle.dtd.specs.Kinds.{id-part, subset-part};
+
+// (S ExternalID)? of [28], the white space before it passed, and the white space after it
+fn parse_id_part(s: &[u8], at: usize) -> Answer
+    ensures { λ r. ⌜ r ≡ read id-part (now (s .entry)) at ⌝ }
+{
+    if at_keyword(s, at, b"SYSTEM") | at_keyword(s, at, b"PUBLIC") {
+        let r = parse_external_id(s, at);
+        let Answer::At(i) = r else {
+            return r;
+        };
+        return Answer::At(skip_s(s, i));
+    }
+    Answer::At(at)
+}
+
+// ('[' intSubset ']' S?)? of [28]
+fn parse_subset_part(s: &[u8], at: usize, names: Names) -> Answer
+    ensures { λ r. ⌜ r ≡ read (subset-part (dialect names)) (now (s .entry)) at ⌝ }
+{
+    let r = eat_str(s, at, b"[", UNEXPECTED);
+    let Answer::At(i) = r else {
+        return Answer::At(at);
+    };
+    let r = parse_internal_subset(s, i, names);
+    let Answer::At(i) = r else {
+        return r;
+    };
+    Answer::At(skip_s(s, i))
+}
+
+// [28] doctypedecl, what stands between `<!DOCTYPE` and its `>`
+fn parse_doctype(s: &[u8], names: Names) -> Answer
+    ensures { λ r. ⌜ r ≡ read (check-doctype (dialect names)) (now (s .entry)) 0 ⌝ }
+{
+    let i = skip_s(s, 0);
+    let r = need_name(s, i, names);
+    let Answer::At(i) = r else {
+        return r;
+    };
+    let i = skip_s(s, i);
+    let r = parse_id_part(s, i);
+    let Answer::At(i) = r else {
+        return r;
+    };
+    let r = parse_subset_part(s, i, names);
+    let Answer::At(i) = r else {
+        return r;
+    };
+    at_end(s, i)
+}
+
+// The public check: 1 and 2 first, then the first refusal that the Rust meets.
+pub fn check_doctype(text: &[u8]) -> u8
+    ensures { λ r. ⌜ Checks (check-doctype appendix-B) (doctypedecl appendix-B) (now (text .entry)) r ⌝ }
+{
+    let n = admit(text);
+    if n != ACCEPTED {
+        return n;
+    }
+    let r = parse_doctype(text, Names::AppendixB);
+    number(r)
+}
