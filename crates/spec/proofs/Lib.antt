@@ -5,3 +5,4 @@ pub mod Wellformed
 pub mod Dtd
 pub mod Rows
 pub mod Division
+pub mod Demands

@@ -1,0 +1,80 @@
+-- The theorems behind demands 2 and 3, on a page. Each is stated over the definitions of specs/, and its proof is a citation. (Demand 1
+-- is what the prover asks of every function: it ends, reads inside its texts and wraps no number, on all inputs.) Assumes nothing.
+use mathlib.Core.Path.{_≡_, refl}
+use mathlib.Core.Logic.{_↔_, _⊎_}
+use mathlib.Core.Bool.{false}
+use mathlib.Core.List.{List}
+use Prim.Native.Nat.{ℕ, _≤_}
+use lib.Dec.{T}
+use lib.ListN.{take}
+use Rattle.spec.specs.Grammar.AppendixB.{appendix-B}
+use Rattle.spec.specs.Grammar.Characters.{Chars}
+use Rattle.spec.specs.Grammar.Division.{Front, Division}
+use Rattle.spec.specs.Grammar.Doctype.{doctypedecl}
+use Rattle.spec.specs.Grammar.Names.{Dialect, Name, with-groups}
+use Rattle.spec.specs.Grammar.References.{Referred, CharData, AttText}
+use Rattle.spec.specs.Premise.{bare, premise, promised}
+use Rattle.spec.specs.Promises.{Checks}
+use Rattle.spec.specs.Reading.Dtd.{check-doctype}
+use Rattle.spec.specs.Reading.Readers.{Reader}
+use Rattle.spec.specs.Reading.Scan.{scan, not-opened}
+use Rattle.spec.specs.Reading.Source.{checked}
+use Rattle.spec.specs.Reading.Wellformed.{check-chars, check-char-refs, check-text, check-attr-value, check-name}
+use Rattle.spec.specs.Grammar.Languages.{Lang}
+use Rattle.spec.proofs.Agreement.Accepts.{promise}
+use Rattle.spec.proofs.Characters.AppendixB.{appendix-B-ascii}
+use Rattle.spec.proofs.Division.Places.{divided, apart, one-division, cuts}
+use Rattle.spec.proofs.Division.Scans.{cuts-without}
+use Rattle.spec.proofs.Dtd.Depth.{deeper-same-B}
+use Rattle.spec.proofs.Dtd.Texts.{doctype-agrees}
+use Rattle.spec.proofs.Wellformed.Checks.{chars-agree, char-refs-agree, text-agree, attr-value-agree, name-agrees}
+use Rattle.spec.proofs.Wellformed.Names.{AsciiNames}
+
+-- Demand 2: on every text the order of reading, with 1 and 2 in front, answers 0 exactly for what the grammar derives.
+abbrev Right : Reader → Lang → Type 0
+Right rule L = (w : List ℕ) → Checks rule L w (checked rule w)
+
+pub chars-right : Right check-chars Chars
+chars-right w = promise chars-agree w _ refl
+
+pub char-refs-right : Right check-char-refs Referred
+char-refs-right w = promise char-refs-agree w _ refl
+
+pub text-right : Right check-text CharData
+text-right w = promise text-agree w _ refl
+
+pub attr-value-right : Right check-attr-value AttText
+attr-value-right w = promise attr-value-agree w _ refl
+
+pub name-right : Right (check-name appendix-B) (Name appendix-B)
+name-right w = promise (name-agrees appendix-B appendix-B-ascii) w _ refl
+
+-- for any name classes that have XML's ASCII characters, and for Appendix B's
+pub doctype-right : (D : Dialect) → AsciiNames D → Right (check-doctype D) (doctypedecl D)
+doctype-right D A w = promise (doctype-agrees D A) w _ refl
+
+pub doctype-right-B : Right (check-doctype appendix-B) (doctypedecl appendix-B)
+doctype-right-B = doctype-right appendix-B appendix-B-ascii
+
+-- the limit of 64 open groups changes no answer but 20
+pub groups-free : (w : List ℕ) → (checked (check-doctype appendix-B) w ≡ 20 → ⊥)
+    → (n : ℕ) → 64 ≤ n → checked (check-doctype (with-groups appendix-B n)) w ≡ checked (check-doctype appendix-B) w
+groups-free = deeper-same-B
+
+-- Demand 3: an accepted DOCTYPE has no subset, or a division into entries; not both, and not two.
+pub accepted-divided : (w : List ℕ) → doctypedecl appendix-B w ↔ (Front appendix-B w ⊎ Division appendix-B w)
+accepted-divided = divided appendix-B appendix-B-ascii
+
+pub not-both : (w : List ℕ) → Front appendix-B w → Division appendix-B w → ⊥
+not-both = apart appendix-B appendix-B-ascii
+
+pub one-way-only : (w : List ℕ) (a b : Division appendix-B w) → (a .entries ≡ b .entries) × (a .opening ≡ b .opening) × (a .closing ≡ b .closing)
+one-way-only = one-division appendix-B appendix-B-ascii
+
+-- Of every front part the scan says where the division's '[' and ']' are, where the premise holds; of a text without a subset, nothing.
+pub cut-anywhere : (w : List ℕ) (d : Division appendix-B w) → T (premise appendix-B bare w false (d .entries))
+    → (cut : ℕ) → scan (take cut w) ≡ promised (d .opening) (d .closing) cut
+cut-anywhere = cuts appendix-B appendix-B-ascii
+
+pub cut-without : (w : List ℕ) → Front appendix-B w → (cut : ℕ) → scan (take cut w) ≡ not-opened
+cut-without = cuts-without appendix-B appendix-B-ascii
