@@ -5,4 +5,5 @@ pub mod Readers
 pub mod Source
 pub mod Wellformed
 pub mod Dtd
+pub mod Checks
 pub mod Scan

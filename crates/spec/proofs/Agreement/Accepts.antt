@@ -25,7 +25,7 @@ pub record Decides (test : List ℕ → Bool) (L : Lang) : Type 0 where
   pub text : (w : List ℕ) → L w → Text w
 
 -- 0 is given where the text may be looked at and the rule takes it
-zero-ok : (x : Result) → number-of x ≡ 0 → (k : ℕ) × (x ≡ ok k)
+pub zero-ok : (x : Result) → number-of x ≡ 0 → (k : ℕ) × (x ≡ ok k)
 zero-ok (ok k) e = (k, refl)
 zero-ok (err r) e = absurd (let h = number-pos r in omega arith)
 

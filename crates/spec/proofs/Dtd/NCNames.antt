@@ -1,0 +1,35 @@
+-- checks.rs: is_ncname says yes exactly to what Namespaces' NCName derives. Assumes nothing.
+use mathlib.Core.Path.{_≡_, refl, sym, ap, _∙_}
+use mathlib.Core.Bool.{Bool, true, false, _&&_, not, true≢false}
+use mathlib.Core.List.{List, [], _∷_}
+use Prim.Native.Nat.{ℕ}
+use lib.Dec.{eqb}
+use Rattle.spec.specs.Grammar.Characters.{Text}
+use Rattle.spec.specs.Grammar.Names.{Dialect, Name, NCName}
+use Rattle.spec.specs.Reading.Checks.{is-ncname}
+use Rattle.spec.specs.Reading.Readers.{Result, ok, err, number-of, contains}
+use Rattle.spec.specs.Reading.Wellformed.{check-name}
+use Rattle.spec.proofs.Agreement.Accepts.{Decides, zero-ok}
+use Rattle.spec.proofs.Agreement.Holds.{free-holds}
+use Rattle.spec.proofs.Base.Tests.{eqb-true, and-left, and-right}
+use Rattle.spec.proofs.Dtd.Notations.{no-colon}
+use Rattle.spec.proofs.Wellformed.Checks.{name-agrees}
+use Rattle.spec.proofs.Wellformed.Names.{AsciiNames}
+
+not-true : (b : Bool) → not b ≡ true → b ≡ false
+not-true true e = absurd (true≢false (sym e))
+not-true false e = refl
+
+pub ncname-decides : (D : Dialect) → AsciiNames D → Decides (is-ncname D) (NCName D)
+unfolding is-ncname NCName
+ncname-decides D A = record { answer = λ w t. (yes w t, no w); text = λ w n. name-agrees D A .text w (n .0) }
+  where
+    yes : (w : List ℕ) → Text w → (eqb (number-of (check-name D w)) 0 && not (contains (58 ∷ []) w)) ≡ true → NCName D w
+    yes w t e =
+        let a = eqb-true (number-of (check-name D w)) 0 (and-left (eqb (number-of (check-name D w)) 0) (not (contains (58 ∷ []) w)) e) in
+        let b = not-true (contains (58 ∷ []) w) (and-right (eqb (number-of (check-name D w)) 0) (not (contains (58 ∷ []) w)) e) in
+        let (k, f) = zero-ok (check-name D w) a in
+        (name-agrees D A .sound w k t f, free-holds ":" 58 [] refl tt w b)
+
+    no : (w : List ℕ) → NCName D w → (eqb (number-of (check-name D w)) 0 && not (contains (58 ∷ []) w)) ≡ true
+    no w n = let (k, f) = name-agrees D A .complete w (n .0) in rw (f, no-colon D A w n)
