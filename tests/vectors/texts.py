@@ -44,7 +44,7 @@ def byte_sequences():
         for rest in [[]] + [[b] + tail for b in seconds for tail in ([], [0x80], [0xBF, 0xBF], [0x80, 0x7F], [0x80, 0x80, 0x80])]:
             line("utf8", bytes([a] + rest))
             line("utf8", b"ab" + bytes([a] + rest) + b"c")
-    for call in CHECKS + ["check_name", "name_part"]:
+    for call in CHECKS + ["check_name", "is_ncname", "name_part"]:
         line(call, b"\xed\xa0\x80")
         line(call, b"a\xc3")
 
@@ -58,8 +58,12 @@ def name_ends():
     for c in range(0x80):
         line("check_name", bytes([c]))
         line("check_name", b"a" + bytes([c]))
+        line("is_ncname", bytes([c]))
+        line("is_ncname", b"a" + bytes([c]))
         line("name_part", bytes([c]) + b"b")
     line("check_name", b"")
+    for text in ["", "a:b", "a:", ":a", "é:é", "éa", "a\u0300", "a\u0300:", "\u0300", "a b", "a\u0220"]:
+        line("is_ncname", text.encode())
     line("name_part", b"")
 
 
@@ -87,7 +91,7 @@ def mixtures(seed, count):
 
 
 def limits():
-    for call in CHECKS + ["check_name", "name_part", "utf8"]:
+    for call in CHECKS + ["check_name", "is_ncname", "name_part", "utf8"]:
         for size in (LIMIT - 1, LIMIT, LIMIT + 1):
             line(call, f"61*{size}")
             line(call, f"61*{size - 1}+01")
@@ -209,6 +213,21 @@ def doctypes(seed, count):
         line("check_doctype", f"615b+20*{size - 1}+5d")
 
 
+def cuts(seed, count):
+    made = Doctypes(seed)
+    for _ in range(count):
+        text = made.damaged(made.doctype())
+        for end in range(len(text) + 1):
+            line("scan", text[:end].encode())
+    # outside the premise: accepted, and the scan says "not closed"
+    for call in ("check_doctype", "scan"):
+        line(call, b"a[<?p it's?>]")
+    line("scan", b"a[\xff]")
+    for size in (LIMIT - 2, LIMIT - 1):
+        line("scan", f"615b+20*{size - 1}+5d")
+        line("scan", f"615b+{b'<!---->'.hex()}*{size // 7 - 1}+5d")
+
+
 def main():
     print("# Made by tests/vectors/texts.py and answered by the unchanged Rust (docs/DIFFERENCES.md, \"Compared by running\").")
     characters()
@@ -218,6 +237,7 @@ def main():
     mixtures(20261115, 700)
     limits()
     doctypes(20261116, 4000)
+    cuts(20261117, 40)
 
 
 if __name__ == "__main__":

@@ -2,6 +2,7 @@
 use crate::bytes;
 use crate::reply::Reply;
 use names::Names;
+use scan::Scanned;
 
 // What the call named `word` answers on `text`. A new call is one more `if` here, or in `number` where
 // it answers by a number alone.
@@ -9,6 +10,13 @@ pub fn reply(word: &[u8], text: &[u8]) -> Reply {
     if bytes::same(word, b"utf8") {
         let verdict = source::is_utf8(text);
         return Reply::Verdict(verdict.number, verdict.yes);
+    }
+    if bytes::same(word, b"is_ncname") {
+        let verdict = checks::is_ncname(text);
+        return Reply::Verdict(verdict.number, verdict.yes);
+    }
+    if bytes::same(word, b"scan") {
+        return scanned(text);
     }
     if bytes::same(word, b"name_part") {
         return name_part(text);
@@ -46,4 +54,14 @@ fn name_part(text: &[u8]) -> Reply {
     }
     let name = names::parse_name(text, 0, Names::AppendixB);
     Reply::Measure(b'l', name.len())
+}
+
+// Not opened, not closed, or the place of the subset's ']'.
+fn scanned(text: &[u8]) -> Reply {
+    match scan::scan(text) {
+        Scanned::NotOpened => Reply::Word(b'o'),
+        Scanned::NotClosed => Reply::Word(b'c'),
+        Scanned::Closed(at) => Reply::Measure(b'p', at),
+        Scanned::Refused(number) => Reply::Number(number),
+    }
 }

@@ -9,6 +9,8 @@ pub enum Reply {
     Number(u8),
     // a number, and `y` or `n`
     Verdict(u8, bool),
+    // a letter
+    Word(u8),
     // a letter and a number of bytes, as `l5`
     Measure(u8, usize),
 }
@@ -23,6 +25,7 @@ pub fn spell(reply: Reply, out: &mut [u8]) -> usize {
             let at = bytes::decimal(out, 0, number as u64);
             bytes::put(out, at, if yes { b'y' } else { b'n' })
         }
+        Reply::Word(letter) => bytes::put(out, 0, letter),
         Reply::Measure(letter, size) => {
             let at = bytes::put(out, 0, letter);
             bytes::decimal(out, at, size as u64)

@@ -1,0 +1,41 @@
+-- `scan::subset::internal_subset_end` meets its contract. The invariant: what the pass finds from i on is what it finds. Assumes nothing.
+use mathlib.Core.Path.{_≡_}
+use Prim.Native.Nat.{_-_}
+use lib.ListN.{length, drop}
+use Rattle.spec.specs.Reading.Scan.{later, subset-end}
+use Rattle.scan.specs.Answers.{placed}
+use Rattle.scan.proofs.Passes.{ending}
+use Rattle.scan.proofs.subset.internal_subset_end.Statement.{statement}
+use Rattle.scan.proofs.subset.internal_subset_end.Tie as tie
+
+abbrev Inv-loop : tie.InvT-loop
+Inv-loop s at i₀ quote₀ t8 i quote = placed (later i (subset-end 0 quote (drop i s))) ≡ placed (later at (subset-end 0 0 (drop at s)))
+
+abbrev μ-loop : tie.MeasureT-loop
+μ-loop s at i₀ quote₀ t8 i quote = length s - i
+
+pub internal-subset-end-spec : {M : Type 1} → statement M
+internal-subset-end-spec =
+    tie.close
+    (tie.spec
+    Inv-loop
+    μ-loop
+    (λ c. search ending)  -- loop-holds
+    (λ c. search ending)  -- shared-slice-read-b
+    (λ c κs. search ending)  -- bare-sign-requires
+    (λ c. search ending)  -- returns
+    (λ c κs. search ending)  -- comment-at-requires
+    (λ c. search ending)  -- add-find
+    (λ c. search ending)  -- slice-aggregate-find
+    (λ c κs. search ending)  -- find-requires
+    (λ c. search ending)  -- enum-known-e
+    (λ c. search ending)  -- enum-told
+    (λ c. search ending)  -- returns-2
+    (λ c. search ending)  -- add-i
+    (λ c. search ending)  -- loop-less
+    (λ c. search ending)  -- loop-again
+    (λ c κs. search ending)  -- turned-requires
+    (λ c. search ending)  -- add-i-2
+    (λ c. search ending)  -- loop-less-2
+    (λ c. search ending)  -- loop-again-2
+    (λ c. search ending))  -- returns-3

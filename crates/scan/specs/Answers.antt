@@ -1,0 +1,40 @@
+-- The code's answers and the rule's. Assumes nothing: these are definitions.
+use mathlib.Core.List.{List}
+use Prim.Native.Nat.{ℕ, zero, suc}
+use lib.Dec.{eqb}
+use Rattle.spec.specs.Basics.{pick}
+use Rattle.spec.specs.Grammar.Languages.{one-of}
+use Rattle.spec.specs.Reading.Readers.{nothing}
+use Rattle.spec.specs.Reading.Source.{checked}
+use Rattle.spec.specs.Reading.Scan as Rule
+use Rattle.spec.specs.Reading.Scan.{Place, at, nowhere, Scan}
+use Rattle.markup.specs.declared.places.Found.{Found}
+use Rattle.markup.specs.declared.places.Found.the-variants.{Here, Nowhere}
+use Rattle.scan.specs.declared.checks.Scanned.{Scanned}
+use Rattle.scan.specs.declared.checks.Scanned.the-variants.{NotOpened, NotClosed, Closed, Refused}
+
+abbrev pub placed : Place → Found
+placed (at i) = Here i
+placed nowhere = Nowhere
+
+abbrev pub scanned : Scan → Scanned
+scanned Rule.not-opened = NotOpened
+scanned Rule.not-closed = NotClosed
+scanned (Rule.closed k) = Closed k
+
+-- the open quote, or 0, after one more byte
+abbrev pub turn : ℕ → ℕ → ℕ
+turn zero b = pick (one-of "\"'" b) b 0
+turn (suc q) b = pick (eqb b (suc q)) 0 (suc q)
+
+-- the written rule on any bytes
+unfoldable pub admitted-answer : List ℕ → Scanned
+admitted-answer w = scanned (Rule.scan w)
+
+abbrev pub answer-by : ℕ → List ℕ → Scanned
+answer-by zero w = admitted-answer w
+answer-by (suc n) w = Refused (suc n)
+
+-- what scan answers: 1 or 2 where the text may not be looked at, else what the written rule says
+unfoldable pub scan-answer : List ℕ → Scanned
+scan-answer w = answer-by (checked nothing w) w
