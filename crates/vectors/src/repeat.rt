@@ -2,23 +2,6 @@
 ghost use Prim.Native.Nat.{_≤_, _<_};
 ghost use lib.ListN.{length};
 
-// Puts what stands between `from` and `to` there `count` times in place of once, as far as the buffer
-// goes, and answers the place after it.
-pub fn repeat(out: &mut [u8], from: usize, to: usize, count: usize) -> usize {
-    if from >= to {
-        return to;
-    }
-    if to > out.len() {
-        return to;
-    }
-    let end = least(from + product(to - from, count), out.len());
-    if end <= to {
-        return end;
-    }
-    spread(out, from, to, end);
-    end
-}
-
 // Goes on with what stands between `from` and `to`, over and over, up to `end`. What is there at the
 // start of a turn is the piece a whole number of times, so a turn copies all of it.
 fn spread(out: &mut [u8], from: usize, to: usize, end: usize)
@@ -67,4 +50,21 @@ fn product(a: usize, b: usize) -> usize
         return 10000000;
     }
     a * b
+}
+
+// Puts what stands between `from` and `to` there `count` times in place of once, as far as the buffer
+// goes, and answers the place after it.
+pub fn repeat(out: &mut [u8], from: usize, to: usize, count: usize) -> usize {
+    if from >= to {
+        return to;
+    }
+    if to > out.len() {
+        return to;
+    }
+    let end = least(from + product(to - from, count), out.len());
+    if end <= to {
+        return end;
+    }
+    spread(out, from, to, end);
+    end
 }
