@@ -24,9 +24,9 @@ body-of D Attlist = parse-attlist-decl D
 body-of D Entity = parse-entity-decl D
 body-of D Notation = parse-notation-decl D
 
--- the last four choices of parse_markup_decl
-unfoldable pub last-two : Dialect → Bool → Reader
-last-two D pe-used =
+-- the last two choices of parse_markup_decl, and the last four
+unfoldable pub entity-or-notation : Dialect → Bool → Reader
+entity-or-notation D pe-used =
     on "<!ENTITY" (word "<!ENTITY" unexpected >> finish-decl D pe-used (parse-entity-decl D))
     (word "<!NOTATION" unexpected >> finish-decl D pe-used (parse-notation-decl D))
 
@@ -34,7 +34,7 @@ unfoldable pub declaration : Dialect → Bool → Reader
 declaration D pe-used =
     on "<!ELEMENT" (word "<!ELEMENT" unexpected >> finish-decl D pe-used (parse-element-decl D))
     (on "<!ATTLIST" (word "<!ATTLIST" unexpected >> finish-decl D pe-used (parse-attlist-decl D))
-    (last-two D pe-used))
+    (entity-or-notation D pe-used))
 
 -- the two optional parts of check_doctype
 unfoldable pub id-part : Reader

@@ -20,7 +20,7 @@ ghost use mathlib.Core.Path.{_≡_};
 ghost use Rattle.spec.specs.Reading.Dtd.{parse-element-decl, finish-decl, parse-markup-decl};
 ghost use Rattle.error.specs.Read.{read};
 ghost use Rattle.names.specs.Names.{dialect};
-ghost use Rattle.dtd.specs.Kinds.{body-of, last-two, declaration};
+ghost use Rattle.dtd.specs.Kinds.{body-of, entity-or-notation, declaration};
 
 // What finish_decl of the Rust is handed as a function.
 pub enum Kind {
@@ -88,9 +88,9 @@ fn finish_decl(s: &[u8], at: usize, pe_used: bool, kind: Kind, names: Names) -> 
     Answer::At(end + 1)
 }
 
-// <!ENTITY and <!NOTATION, the last two of the four keywords
-fn parse_last_two(s: &[u8], at: usize, pe_used: bool, names: Names) -> Answer
-    ensures { λ r. ⌜ r ≡ read (last-two (dialect names) «pe_used») (now (s .entry)) at ⌝ }
+// <!ENTITY and <!NOTATION, the last two keywords of the four
+fn parse_entity_or_notation(s: &[u8], at: usize, pe_used: bool, names: Names) -> Answer
+    ensures { λ r. ⌜ r ≡ read (entity-or-notation (dialect names) «pe_used») (now (s .entry)) at ⌝ }
 {
     let r = eat_str(s, at, b"<!ENTITY", UNEXPECTED);
     if let Answer::At(i) = r {
@@ -115,7 +115,7 @@ fn parse_declaration(s: &[u8], at: usize, pe_used: bool, names: Names) -> Answer
     if let Answer::At(i) = r {
         return finish_decl(s, i, pe_used, Kind::Attlist, names);
     }
-    parse_last_two(s, at, pe_used, names)
+    parse_entity_or_notation(s, at, pe_used, names)
 }
 
 // [29] markupdecl; a conditional section is none

@@ -22,5 +22,5 @@ parse-declaration-spec =
     (λ c κs. search reading)  -- finish-decl-requires-2
     (λ c. search reading)  -- returns-2
     (λ c. search reading)  -- enum-told-2
-    (λ c κs. search reading)  -- parse-last-two-requires
+    (λ c κs. search reading)  -- parse-entity-or-notation-requires
     (λ c. search reading))  -- returns-3

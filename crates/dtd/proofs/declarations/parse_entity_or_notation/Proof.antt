@@ -1,13 +1,13 @@
--- `dtd::declarations::parse_last_two` meets its contract. Assumes nothing.
+-- `dtd::declarations::parse_entity_or_notation` meets its contract. Assumes nothing.
 use Rattle.spec.specs.Reading.Readers.{on}
-use Rattle.dtd.specs.Kinds.{body-of, last-two}
+use Rattle.dtd.specs.Kinds.{body-of, entity-or-notation}
 use Rattle.cursor.proofs.Reading.{reading}
-use Rattle.dtd.proofs.declarations.parse_last_two.Statement.{statement}
-use Rattle.dtd.proofs.declarations.parse_last_two.Tie as tie
+use Rattle.dtd.proofs.declarations.parse_entity_or_notation.Statement.{statement}
+use Rattle.dtd.proofs.declarations.parse_entity_or_notation.Tie as tie
 
-pub parse-last-two-spec : {M : Type 1} → statement M
-unfolding on last-two body-of
-parse-last-two-spec =
+pub parse-entity-or-notation-spec : {M : Type 1} → statement M
+unfolding on entity-or-notation body-of
+parse-entity-or-notation-spec =
     tie.close
     (tie.spec
     (λ c. search reading)  -- slice-aggregate-eat-str
