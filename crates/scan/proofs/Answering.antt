@@ -18,8 +18,8 @@ use Rattle.spec.specs.Reading.Scan.{Place, at, nowhere, later, subset-open, sub
 use Rattle.spec.proofs.Division.FrontParts.{nowhere-at, at-inj}
 use Rattle.markup.specs.declared.places.Found.{Found}
 use Rattle.markup.specs.declared.places.Found.the-variants.{Here, Nowhere}
-use Rattle.scan.specs.declared.checks.Scanned.{Scanned}
-use Rattle.scan.specs.declared.checks.Scanned.the-variants.{NotOpened, NotClosed, Closed, Refused}
+use Rattle.scan.specs.declared.calls.Scanned.{Scanned}
+use Rattle.scan.specs.declared.calls.Scanned.the-variants.{NotOpened, NotClosed, Closed, Refused}
 use Rattle.scan.specs.Answers.{placed, scanned, admitted-answer, answer-by, scan-answer}
 
 -- the rule's place from the code's

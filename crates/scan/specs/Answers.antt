@@ -10,8 +10,8 @@ use Rattle.spec.specs.Reading.Scan as Rule
 use Rattle.spec.specs.Reading.Scan.{Place, at, nowhere, Scan}
 use Rattle.markup.specs.declared.places.Found.{Found}
 use Rattle.markup.specs.declared.places.Found.the-variants.{Here, Nowhere}
-use Rattle.scan.specs.declared.checks.Scanned.{Scanned}
-use Rattle.scan.specs.declared.checks.Scanned.the-variants.{NotOpened, NotClosed, Closed, Refused}
+use Rattle.scan.specs.declared.calls.Scanned.{Scanned}
+use Rattle.scan.specs.declared.calls.Scanned.the-variants.{NotOpened, NotClosed, Closed, Refused}
 
 abbrev pub placed : Place → Found
 placed (at i) = Here i
