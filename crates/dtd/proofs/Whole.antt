@@ -3,18 +3,22 @@ use mathlib.Core.Path.{_≡_, sym, _∙_}
 use mathlib.Core.Bool.{Bool, true, false, _||_}
 use mathlib.Core.List.{List}
 use Prim.Native.Nat.{ℕ}
+use borrow.Author.Needs.{needs}
 use lib.ListN.{drop}
 use Rattle.spec.specs.Grammar.Languages.{ascii}
 use Rattle.spec.specs.Grammar.AppendixB.{appendix-B}
 use Rattle.spec.specs.Grammar.Doctype.{doctypedecl}
 use Rattle.spec.specs.Reading.Readers.{_>>_, nothing, number-of, starts, choose}
+use Rattle.spec.specs.Promises.{ChecksDoctype}
 use Rattle.spec.specs.Reading.Dtd.{skip-s, parse-external-id, check-doctype}
+use Rattle.spec.specs.Reading.Source.{checked}
 use Rattle.spec.proofs.Agreement.Accepts.{Agrees}
 use Rattle.spec.proofs.Characters.AppendixB.{appendix-B-ascii}
+use Rattle.spec.proofs.Division.Promised.{doctype-promise}
 use Rattle.spec.proofs.Dtd.Texts.{doctype-agrees}
 use Rattle.error.specs.Read.{read}
 use Rattle.error.specs.declared.Answer.{Answer}
-use Rattle.source.proofs.Admitting.{calling}
+use Rattle.source.proofs.Admitting.{call-refused, call-answered}
 use Rattle.names.specs.Names.{dialect}
 use Rattle.names.specs.declared.classes.Names.the-variants.{AppendixB}
 use Rattle.wellformed.specs.Numbers.{answer-number}
@@ -33,14 +37,22 @@ module _ (s : List ℕ) (at : ℕ) (a b : Bool) (e : a ≡ starts (ascii "SYSTEM
   id-no g h = rw (sym e, sym f, g) h
 
 -- the check of this dialect accepts what its grammar derives
-pub whole-agrees : Agrees (check-doctype appendix-B) (doctypedecl appendix-B)
+whole-agrees : Agrees (check-doctype appendix-B) (doctypedecl appendix-B)
 whole-agrees = doctype-agrees appendix-B appendix-B-ascii
 
 pub whole-number : (s : List ℕ) (r : Answer) (m : ℕ) → r ≡ read (check-doctype (dialect AppendixB)) s 0 → m ≡ answer-number r → m ≡ number-of (check-doctype appendix-B s)
 unfolding dialect
 whole-number s r m a e = e ∙ answered (check-doctype appendix-B) s r a
 
+-- the public call after admit: n is the number in front, and m the rule's own
+module _ (w : List ℕ) (n : ℕ) (e : n ≡ checked nothing w) where
+  pub doctype-refused : (n ≡ 0 → ⊥) → ChecksDoctype appendix-B w n
+  doctype-refused z = doctype-promise appendix-B appendix-B-ascii w n (call-refused (check-doctype appendix-B) (doctypedecl appendix-B) w n whole-agrees e z)
+
+  pub doctype-answered : (m : ℕ) → n ≡ 0 → m ≡ number-of (check-doctype appendix-B w) → ChecksDoctype appendix-B w m
+  doctype-answered m z f = doctype-promise appendix-B appendix-B-ascii w m (call-answered (check-doctype appendix-B) (doctypedecl appendix-B) w n m whole-agrees e z f)
+
 -- what the parts search, and the public call
 pub ruleset parts-read = (id-yes, id-no, reading)
 
-pub ruleset whole = (whole-agrees, whole-number, calling)
+pub ruleset whole = (whole-number, doctype-refused, doctype-answered, needs)

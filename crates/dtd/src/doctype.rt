@@ -14,9 +14,9 @@ use wellformed::at_keyword;
 use wellformed::number;
 ghost use mathlib.Core.Path.{_≡_};
 ghost use Rattle.spec.specs.Grammar.AppendixB.{appendix-B};
-ghost use Rattle.spec.specs.Grammar.Doctype.{doctypedecl};
 ghost use Rattle.spec.specs.Reading.Dtd.{check-doctype};
-ghost use Rattle.spec.specs.Promises.{Checks};
+ghost use Rattle.spec.specs.Reading.Readers.{number-of};
+ghost use Rattle.spec.specs.Promises.{ChecksDoctype};
 ghost use Rattle.error.specs.Read.{read};
 ghost use Rattle.names.specs.Names.{dialect};
 ghost use Rattle.dtd.specs.Kinds.{id-part, subset-part};
@@ -71,14 +71,21 @@ fn parse_doctype(s: &[u8], names: Names) -> Answer
     at_end(s, i)
 }
 
-// The public check: 1 and 2 first, then the first refusal that the Rust meets.
+// The first refusal that the Rust meets, on any bytes.
+pub fn doctype_number(text: &[u8]) -> u8
+    ensures { λ r. ⌜ r ≡ number-of (check-doctype appendix-B (now (text .entry))) ⌝ }
+{
+    let r = parse_doctype(text, Names::AppendixB);
+    number(r)
+}
+
+// The public check: 1 and 2 come first.
 pub fn check_doctype(text: &[u8]) -> u8
-    ensures { λ r. ⌜ Checks (check-doctype appendix-B) (doctypedecl appendix-B) (now (text .entry)) r ⌝ }
+    ensures { λ r. ⌜ ChecksDoctype appendix-B (now (text .entry)) r ⌝ }
 {
     let n = admit(text);
     if n != ACCEPTED {
         return n;
     }
-    let r = parse_doctype(text, Names::AppendixB);
-    number(r)
+    doctype_number(text)
 }

@@ -4,3 +4,4 @@ mod doctype;
 mod subset;
 
 pub use doctype::check_doctype;
+pub use doctype::doctype_number;

@@ -10,17 +10,21 @@ use mir.Val.{Fits}
 use lib.Dec.{eqb}
 use lib.ListN.{length, drop}
 use Rattle.spec.specs.Basics.{pick}
+use Rattle.spec.specs.Grammar.AppendixB.{appendix-B}
 use Rattle.spec.specs.Grammar.Languages.{one-of}
 use Rattle.spec.specs.Reading.Readers.{nothing}
 use Rattle.spec.specs.Reading.Source.{checked}
 use Rattle.spec.specs.Reading.Scan as Rule
 use Rattle.spec.specs.Reading.Scan.{Place, at, nowhere, later, subset-open, subset-end, scan-from, scan-after}
+use Rattle.spec.proofs.Agreement.Accepts.{looked-at}
+use Rattle.spec.proofs.Characters.AppendixB.{appendix-B-ascii}
 use Rattle.spec.proofs.Division.FrontParts.{nowhere-at, at-inj}
+use Rattle.spec.proofs.Division.Promised.{cuts-promise}
 use Rattle.markup.specs.declared.places.Found.{Found}
 use Rattle.markup.specs.declared.places.Found.the-variants.{Here, Nowhere}
 use Rattle.scan.specs.declared.calls.Scanned.{Scanned}
 use Rattle.scan.specs.declared.calls.Scanned.the-variants.{NotOpened, NotClosed, Closed, Refused}
-use Rattle.scan.specs.Answers.{placed, scanned, admitted-answer, answer-by, scan-answer}
+use Rattle.scan.specs.Answers.{placed, scanned, admitted-answer, answer-by, scan-answer, Scans}
 
 -- the rule's place from the code's
 was-at : (p : Place) (r : Found) (j : ℕ) → r ≡ placed p → r ≡ Here j → p ≡ at j
@@ -80,16 +84,23 @@ module _ (s : List ℕ) (o : Found) (a : o ≡ placed (subset-open 0 s)) where
 
 -- the numbers in front: n is what admit gave
 module _ (w : List ℕ) (n : ℕ) (e : n ≡ checked nothing w) where
-  pub scan-refused : (n ≡ 0 → ⊥) → Refused n ≡ scan-answer w
+  -- whoever gives the rule's answer keeps the promise, for a front part that may be looked at has the number 0 in front
+  promised : (r : Scanned) → r ≡ scan-answer w → Scans w r
+  promised r f = record {
+    rule = f;
+    cuts = cuts-promise appendix-B appendix-B-ascii w (λ a. r ≡ scanned a) (λ t. f ∙ (unfold scan-answer admitted-answer in ap (λ (k : ℕ). answer-by k w) (looked-at w t)));
+  }
+
+  pub scan-refused : (n ≡ 0 → ⊥) → Scans w (Refused n)
   unfolding scan-answer
-  scan-refused z = go n z ∙ ap (λ (k : ℕ). answer-by k w) e
+  scan-refused z = promised (Refused n) (go n z ∙ ap (λ (k : ℕ). answer-by k w) e)
     where
       go : (n : ℕ) → (n ≡ 0 → ⊥) → Refused n ≡ answer-by n w
       go zero z = absurd (z refl)
       go (suc n) z = refl
 
-  pub scan-answered : (r : Scanned) → n ≡ 0 → r ≡ admitted-answer w → r ≡ scan-answer w
+  pub scan-answered : (r : Scanned) → n ≡ 0 → r ≡ admitted-answer w → Scans w r
   unfolding scan-answer
-  scan-answered r z f = f ∙ ap (λ (k : ℕ). answer-by k w) (sym z ∙ e)
+  scan-answered r z f = promised r (f ∙ ap (λ (k : ℕ). answer-by k w) (sym z ∙ e))
 
 pub ruleset answering = (scan-not-opened, scan-fits, scan-not-closed, scan-closed, scan-refused, scan-answered, needs)

@@ -4,7 +4,7 @@ use crate::subset::subset_open;
 use markup::Found;
 use source::admit;
 ghost use mathlib.Core.Path.{_≡_};
-ghost use Rattle.scan.specs.Answers.{scan-answer, admitted-answer};
+ghost use Rattle.scan.specs.Answers.{Scans, admitted-answer};
 
 // What the scan says: no subset has opened, one has opened and not closed, it closed at the ']' of this place; or 1 or 2, where the
 // text may not be looked at.
@@ -16,7 +16,7 @@ pub enum Scanned {
 }
 
 // The scan of any bytes. The second pass begins after the byte where the first one stopped.
-fn scan_admitted(text: &[u8]) -> Scanned
+pub fn scan_admitted(text: &[u8]) -> Scanned
     ensures { λ r. ⌜ r ≡ admitted-answer (now (text .entry)) ⌝ }
 {
     let o = subset_open(text);
@@ -32,7 +32,7 @@ fn scan_admitted(text: &[u8]) -> Scanned
 
 // 1 and 2 come before the scan, as in every public call.
 pub fn scan(text: &[u8]) -> Scanned
-    ensures { λ r. ⌜ r ≡ scan-answer (now (text .entry)) ⌝ }
+    ensures { λ r. ⌜ Scans (now (text .entry)) r ⌝ }
 {
     let number = admit(text);
     if number != error::ACCEPTED {

@@ -5,3 +5,4 @@ mod subset;
 
 pub use calls::Scanned;
 pub use calls::scan;
+pub use calls::scan_admitted;

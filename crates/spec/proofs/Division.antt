@@ -8,3 +8,4 @@ pub mod Scans
 pub mod Parting
 pub mod Divides
 pub mod Places
+pub mod Promised

@@ -9,4 +9,5 @@ pub mod Literals
 pub mod ContentModels
 pub mod Declarations
 pub mod Doctype
+pub mod XmlDecl
 pub mod Division

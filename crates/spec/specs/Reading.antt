@@ -7,3 +7,4 @@ pub mod Wellformed
 pub mod Dtd
 pub mod Checks
 pub mod Scan
+pub mod Gate

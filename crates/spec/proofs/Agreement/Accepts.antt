@@ -41,6 +41,11 @@ zero-checked : (rule : Reader) (w : List ℕ) (k : ℕ) → Accepted Text w → 
 unfolding checked
 zero-checked rule w k (h, t) e = let (j, a) = admits w h t in rw (a, e)
 
+-- a text that may be looked at has no number in front
+pub looked-at : (w : List ℕ) → Accepted Text w → checked nothing w ≡ 0
+unfolding nothing
+looked-at w a = zero-checked nothing w 0 a refl
+
 -- the number in front of a call and the call's own: where it is not 0 it is the answer, where it is 0 the rule decides
 module _ (rule : Reader) (w : List ℕ) (n : ℕ) (e : n ≡ checked nothing w) where
   pub not-admitted : (n ≡ 0 → ⊥) → n ≡ checked rule w
@@ -76,9 +81,8 @@ told {test} {L} d w n b e z f =
     }
 
 pub told-no : {test : List ℕ → Bool} {L : Lang} → Decides test L → (w : List ℕ) (n : ℕ) → n ≡ checked nothing w → (n ≡ 0 → ⊥) → Tells L w n false
-unfolding nothing
 told-no {test} {L} d w n e z =
     record {
       number = e;
-      answer = (λ y. absurd (true≢false (sym y)), λ (h, l). absurd (z (e ∙ zero-checked nothing w 0 (h, d .text w l) refl)));
+      answer = (λ y. absurd (true≢false (sym y)), λ (h, l). absurd (z (e ∙ looked-at w (h, d .text w l))));
     }

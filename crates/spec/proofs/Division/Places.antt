@@ -22,7 +22,7 @@ use Rattle.spec.proofs.Division.FrontParts.{nowhere-at}
 use Rattle.spec.proofs.Division.Parting.{divided-parts, one-parts}
 use Rattle.spec.proofs.Division.Parts.{Filling, last, next, entries, Parts, open-at, close-at, list-of, Premise, Cuts-parts}
 use Rattle.spec.proofs.Division.Quoting.{quoting}
-use Rattle.spec.proofs.Division.Scans.{found-after, found-none, cuts-parts, cuts-parts-9}
+use Rattle.spec.proofs.Division.Scans.{found-after, found-none, cuts-parts, cuts-parts-quoting}
 use Rattle.spec.proofs.Wellformed.Names.{AsciiNames}
 
 -- what the scan says at each cut of a text with a division, where instructions pass the test
@@ -213,6 +213,6 @@ module _ (D : Dialect) (A : AsciiNames D) where
   pub cuts : Cuts D bare
   cuts = from-parts bare (cuts-parts D A)
 
-  -- with the premise of request 9
-  pub cuts-9 : Cuts D quoting
-  cuts-9 = from-parts quoting (cuts-parts-9 D A)
+  -- where instructions may hold paired quotes, a wider premise
+  pub cuts-quoting : Cuts D quoting
+  cuts-quoting = from-parts quoting (cuts-parts-quoting D A)

@@ -69,9 +69,9 @@ cut-scan x y j cut o c = go (decide (leb cut (length x)))
         is-in h = rw (leb-yes (suc (length x)) cut h)
 
 module _ (D : Dialect) (A : AsciiNames D) where
-  -- with the premise of request 9
-  pub cuts-parts-9 : Cuts-parts D quoting
-  cuts-parts-9 w d h cut =
+  -- where instructions may hold paired quotes, a wider premise
+  pub cuts-parts-quoting : Cuts-parts D quoting
+  cuts-parts-quoting w d h cut =
       ap (λ (z : List ℕ). scan (take cut z)) (d .split)
       ∙ cut-scan (d .front) (d .inner ++ (93 ∷ d .back)) (length (d .inner)) cut
       (found-after (subset-open 0) (d .front) (91 ∷ (d .inner ++ (93 ∷ d .back))) (clear-front D A (d .front) (d .heads)) (unfold subset-open in refl))
@@ -97,7 +97,7 @@ module _ (D : Dialect) (A : AsciiNames D) where
       go true false g ih t = absurd (g tt)
 
   pub cuts-parts : Cuts-parts D bare
-  cuts-parts w d h cut = cuts-parts-9 w d (weaken (d .fills) h) cut
+  cuts-parts w d h cut = cuts-parts-quoting w d (weaken (d .fills) h) cut
 
   -- a text without a subset
   pub cuts-without : (w : List ℕ) → Front D w → (cut : ℕ) → scan (take cut w) ≡ not-opened

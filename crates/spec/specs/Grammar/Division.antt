@@ -30,7 +30,8 @@ refers comment = false
 refers reference = true
 
 module _ (D : Dialect) where
-  -- what an entry of a kind may be, by whether a parameter-entity reference stood earlier between declarations
+  -- what an entry of a kind may be, by whether a parameter-entity reference stood earlier between declarations:
+  -- [45] elementdecl, [52] AttlistDecl, [70] EntityDecl, [82] NotationDecl, [16] PI, [15] Comment, [69] PEReference
   abbrev pub entry-of : Bool → Kind → Lang
   entry-of pe element = lit "<!ELEMENT" · declared D pe (element-body D) · lit ">"
   entry-of pe attlist = lit "<!ATTLIST" · declared D pe (attlist-body D) · lit ">"

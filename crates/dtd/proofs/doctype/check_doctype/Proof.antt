@@ -9,6 +9,5 @@ check-doctype-spec =
     (tie.spec
     (λ c κs. search whole)  -- admit-requires
     (λ c. search whole)  -- returns
-    (λ c κs. search whole)  -- parse-doctype-requires
-    (λ c κs. search whole)  -- number-requires
+    (λ c κs. search whole)  -- doctype-number-requires
     (λ c. search whole))  -- returns-2
