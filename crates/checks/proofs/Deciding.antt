@@ -11,7 +11,7 @@ use Rattle.spec.specs.Reading.Readers.{number-of, contains}
 use Rattle.spec.specs.Reading.Wellformed.{check-name}
 use Rattle.spec.proofs.Agreement.Accepts.{Decides}
 use Rattle.spec.proofs.Characters.AppendixB.{appendix-B-ascii}
-use Rattle.spec.proofs.Dtd.NCNames.{ncname-decides}
+use Rattle.spec.proofs.Checks.NCNames.{ncname-decides}
 use Rattle.source.proofs.Admitting.{calling}
 use Rattle.names.specs.Names.{dialect}
 use Rattle.names.specs.declared.classes.Names.the-variants.{AppendixB}

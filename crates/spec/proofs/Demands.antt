@@ -2,31 +2,38 @@
 -- is what the prover asks of every function: it ends, reads inside its texts and wraps no number, on all inputs.) Assumes nothing.
 use mathlib.Core.Path.{_≡_, refl}
 use mathlib.Core.Logic.{_↔_, _⊎_}
-use mathlib.Core.Bool.{false}
+use mathlib.Core.Bool.{false, _&&_}
 use mathlib.Core.List.{List}
 use Prim.Native.Nat.{ℕ, _≤_}
-use lib.Dec.{T}
+use lib.Dec.{T, eqb}
 use lib.ListN.{take}
 use Rattle.spec.specs.Grammar.AppendixB.{appendix-B}
 use Rattle.spec.specs.Grammar.Characters.{Chars}
 use Rattle.spec.specs.Grammar.Division.{Front, Division}
 use Rattle.spec.specs.Grammar.Doctype.{doctypedecl}
-use Rattle.spec.specs.Grammar.Names.{Dialect, Name, with-groups}
+use Rattle.spec.specs.Grammar.Names.{Dialect, Name, NCName, with-groups}
 use Rattle.spec.specs.Grammar.References.{Referred, CharData, AttText}
+use Rattle.spec.specs.Grammar.XmlDecl.{XMLDecl}
 use Rattle.spec.specs.Premise.{bare, premise, promised}
-use Rattle.spec.specs.Promises.{Checks}
+use Rattle.spec.specs.Promises.{Checks, Tells}
+use Rattle.spec.specs.Reading.Checks.{check-declaration, is-ncname}
 use Rattle.spec.specs.Reading.Dtd.{check-doctype}
-use Rattle.spec.specs.Reading.Readers.{Reader}
+use Rattle.spec.specs.Reading.Readers.{Reader, nothing}
 use Rattle.spec.specs.Reading.Scan.{scan, not-opened}
 use Rattle.spec.specs.Reading.Source.{checked}
 use Rattle.spec.specs.Reading.Wellformed.{check-chars, check-char-refs, check-text, check-attr-value, check-name}
+use Rattle.spec.specs.Rows.{rows}
 use Rattle.spec.specs.Grammar.Languages.{Lang}
-use Rattle.spec.proofs.Agreement.Accepts.{promise}
+use Rattle.spec.proofs.Agreement.Accepts.{promise, tells}
 use Rattle.spec.proofs.Characters.AppendixB.{appendix-B-ascii}
+use Rattle.spec.proofs.Checks.NCNames.{ncname-decides}
+use Rattle.spec.proofs.Checks.XmlDecl.{declaration-agrees}
 use Rattle.spec.proofs.Division.Places.{divided, apart, one-division, cuts}
 use Rattle.spec.proofs.Division.Scans.{cuts-without}
 use Rattle.spec.proofs.Dtd.Depth.{deeper-same-B}
 use Rattle.spec.proofs.Dtd.Texts.{doctype-agrees}
+use Rattle.spec.proofs.Rows
+use Rattle.spec.proofs.Rows.{All}
 use Rattle.spec.proofs.Wellformed.Checks.{chars-agree, char-refs-agree, text-agree, attr-value-agree, name-agrees}
 use Rattle.spec.proofs.Wellformed.Names.{AsciiNames}
 
@@ -55,6 +62,17 @@ doctype-right D A w = promise (doctype-agrees D A) w _ refl
 
 pub doctype-right-B : Right (check-doctype appendix-B) (doctypedecl appendix-B)
 doctype-right-B = doctype-right appendix-B appendix-B-ascii
+
+pub declaration-right : Right check-declaration XMLDecl
+declaration-right w = promise declaration-agrees w _ refl
+
+-- is_ncname says yes exactly to an NCName that may be looked at; with 1 and 2 it says no
+pub ncname-right : (w : List ℕ) → Tells (NCName appendix-B) w (checked nothing w) (eqb (checked nothing w) 0 && is-ncname appendix-B w)
+ncname-right = tells (ncname-decides appendix-B appendix-B-ascii)
+
+-- document 01's sixteen texts have the numbers that stand beside them
+pub sixteen-rows : All Rows.Right rows
+sixteen-rows = Rows.rows-right
 
 -- the limit of 64 open groups changes no answer but 20
 pub groups-free : (w : List ℕ) → (checked (check-doctype appendix-B) w ≡ 20 → ⊥)

@@ -6,7 +6,6 @@ pub mod Bodies
 pub mod Comments
 pub mod Instructions
 pub mod Notations
-pub mod NCNames
 pub mod Entities
 pub mod Attlists
 pub mod Tame

@@ -3,6 +3,7 @@ pub mod Characters
 pub mod Agreement
 pub mod Wellformed
 pub mod Dtd
+pub mod Checks
 pub mod Rows
 pub mod Division
 pub mod Demands

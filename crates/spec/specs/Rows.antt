@@ -1,30 +1,51 @@
--- Document 01's texts and their numbers. Assumes nothing.
+-- Document 01's sixteen texts and their numbers. Assumes nothing.
 use mathlib.Core.List.{List, [], _∷_}
 use Prim.Native.Nat.{ℕ}
 use Prim.Native.String.{String}
+use Rattle.spec.specs.Grammar.AppendixB.{appendix-B}
+use Rattle.spec.specs.Grammar.Doctype.{doctypedecl}
+use Rattle.spec.specs.Grammar.Languages.{Lang}
+use Rattle.spec.specs.Grammar.XmlDecl.{XMLDecl}
+use Rattle.spec.specs.Reading.Checks.{check-declaration}
+use Rattle.spec.specs.Reading.Dtd.{check-doctype}
+use Rattle.spec.specs.Reading.Readers.{Reader}
+
+-- what a text is read as: the order of reading, and the grammar
+pub data Subject : Type 0 where
+  doctype declaration : Subject
+
+abbrev pub rule-of : Subject → Reader
+rule-of doctype = check-doctype appendix-B
+rule-of declaration = check-declaration
+
+abbrev pub grammar-of : Subject → Lang
+grammar-of doctype = doctypedecl appendix-B
+grammar-of declaration = XMLDecl
 
 pub record Row : Type 0 where
+  pub subject : Subject
   pub text : String
   pub answer : ℕ
 
-abbrev pub row : String → ℕ → Row
-row s n = record { text = s; answer = n }
+abbrev pub row : Subject → String → ℕ → Row
+row x s n = record { subject = x; text = s; answer = n }
 
--- DOCTYPE
-abbrev pub doctype-rows : List Row
-doctype-rows =
-    row "" 4
-    ∷ row "a" 0
-    ∷ row "a SYSTEM" 3
-    ∷ row "a PUBLIC \"^\" \"s\"" 10
-    ∷ row "a[]b" 9
-    ∷ row "a[<!ELEMENT b (#PCDATA|c)>]" 13
-    ∷ row "a[<!ELEMENT b (#PCDATA)*>]" 0
-    ∷ row "a[<!ELEMENT b (c,d|e)>]" 13
-    ∷ row "a[<!ENTITY e \"&#x;\">]" 15
-    ∷ row "a[<!ENTITY e \"&#4294967361;\">]" 16
-    ∷ row "a[<!ELEMENT !! %p>]" 0
-    ∷ row "a[%p;<!ELEMENT>]" 0
-    ∷ row "a[<!--x--->]" 0
-    ∷ row "a[<?Xml?>]" 11
+abbrev pub rows : List Row
+rows =
+    row doctype "" 4
+    ∷ row doctype "a" 0
+    ∷ row doctype "a SYSTEM" 3
+    ∷ row doctype "a PUBLIC \"^\" \"s\"" 10
+    ∷ row doctype "a[]b" 9
+    ∷ row doctype "a[<!ELEMENT b (#PCDATA|c)>]" 13
+    ∷ row doctype "a[<!ELEMENT b (#PCDATA)*>]" 0
+    ∷ row doctype "a[<!ELEMENT b (c,d|e)>]" 13
+    ∷ row doctype "a[<!ENTITY e \"&#x;\">]" 15
+    ∷ row doctype "a[<!ENTITY e \"&#4294967361;\">]" 16
+    ∷ row doctype "a[<!ELEMENT !! %p>]" 0
+    ∷ row doctype "a[%p;<!ELEMENT>]" 0
+    ∷ row doctype "a[<!--x--->]" 0
+    ∷ row doctype "a[<?Xml?>]" 11
+    ∷ row declaration "xml version=\"1.\"" 17
+    ∷ row declaration "xml version=\"1.0\"encoding=\"u\"" 3
     ∷ []

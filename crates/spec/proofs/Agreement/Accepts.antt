@@ -1,16 +1,18 @@
 -- From a rule that agrees with the grammar to what a public call promises. Assumes nothing.
-use mathlib.Core.Bool.{Bool, true, false, true≢false}
+use mathlib.Core.Bool.{Bool, true, false, _&&_, true≢false}
 use mathlib.Core.List.{List}
 use mathlib.Core.Logic.{_↔_}
 use mathlib.Core.Path.{_≡_, refl, sym, _∙_}
 use Prim.Native.Nat.{ℕ}
 use native.Mathlib.Omega.{arith}
+use lib.Dec.{eqb}
 use Rattle.spec.specs.Grammar.Characters.{Text}
 use Rattle.spec.specs.Grammar.Languages.{Lang}
 use Rattle.spec.specs.Promises.{Accepted, Checks, Tells}
 use Rattle.spec.specs.Reading.Readers.{Result, ok, err, Reader, number-of, on-ok, nothing}
 use Rattle.spec.specs.Reading.Source.{admit, checked}
 use Rattle.spec.proofs.Base.Results.{number-pos}
+use Rattle.spec.proofs.Base.Tests.{true→T, false→no, eqb-true, eqb-yes}
 use Rattle.spec.proofs.Characters.Valid.{admit-ok, admits}
 
 -- a rule takes of the texts just those that the grammar derives
@@ -86,3 +88,11 @@ told-no {test} {L} d w n e z =
       number = e;
       answer = (λ y. absurd (true≢false (sym y)), λ (h, l). absurd (z (e ∙ looked-at w (h, d .text w l))));
     }
+
+-- a yes-or-no call whose answer is no with 1 and 2, and else its test's
+pub tells : {test : List ℕ → Bool} {L : Lang} → Decides test L → (w : List ℕ) → Tells L w (checked nothing w) (eqb (checked nothing w) 0 && test w)
+tells {test} {L} d w = go (eqb (checked nothing w) 0) refl
+  where
+    go : (b : Bool) → eqb (checked nothing w) 0 ≡ b → Tells L w (checked nothing w) (b && test w)
+    go true e = told d w (checked nothing w) (test w) refl (eqb-true (checked nothing w) 0 e) refl
+    go false e = told-no d w (checked nothing w) refl (λ z. false→no (eqb (checked nothing w) 0) e (true→T (eqb (checked nothing w) 0) (eqb-yes (checked nothing w) 0 z)))

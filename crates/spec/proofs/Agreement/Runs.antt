@@ -1,13 +1,14 @@
 -- Runs of bytes of an ASCII class, and white space. Assumes nothing.
 use mathlib.Core.Logic
 use mathlib.Core.Bool.{Bool, true, false, not, true≢false}
-use mathlib.Core.List.{List, [], _∷_, _++_, append-assoc}
+use mathlib.Core.List.{List, [], _∷_, _++_, append-assoc, append-nil}
 use mathlib.Core.Logic.{_⊎_}
-use mathlib.Core.Path.{_≡_, refl, sym, _∙_, ap}
+use mathlib.Core.Path.{_≡_, refl, sym, _∙_, ap, subst}
 use Prim.Native.Nat.{ℕ, suc, _+_, _<_}
 use native.Mathlib.Omega.{arith}
-use lib.Dec.{T, ltb, eqb}
-use lib.ListN.{length, length-append}
+use lib.Dec.{T, ltb, eqb, eqb→eq}
+use lib.ListN.{length, drop, length-append, drop-of-length-le}
+use lib.Seq.{drop-append-seam}
 use Rattle.spec.specs.Basics.{pick}
 use Rattle.spec.specs.Grammar.Characters.{Text, space, S, S?}
 use Rattle.spec.specs.Grammar.Languages.{Lang, ascii, Ch, inl, inr, Star, end, more, Plus, any, among}
@@ -88,22 +89,37 @@ module _ (p : ℕ → Bool) (small : (c : ℕ) → T (p c) → c < 128) where
           let b : x ≡ c .char ∷ [] = c .bytes ∙ encode-1 (c .char) (small (c .char) (c .in-class)) in
           rw (e, b, kind-ascii (c .char) (y ++ v) (small (c .char) (c .in-class))) (in-left (p (c .char)) (q (c .char)) (c .in-class))
 
+-- a run that is the whole text
+pub whole-run : (p : ℕ → Bool) → ((c : ℕ) → T (p c) → c < 128) → (u : List ℕ) → Text u → run p u ≡ length u → Star (Ch p) u
+whole-run p small u tu e =
+    let t : Took (Star (Ch p)) (run p u) u = run-took p small u tu in
+    let l : length u ≡ length (t .taken) + length (t .rest) = ap length (t .split) ∙ length-append (t .taken) (t .rest) in
+    let z : length (t .taken) ≡ run p u = t .size in
+    let n : t .rest ≡ [] = drop-of-length-le (t .rest) {i = 0} (omega arith) in
+    subst (Star (Ch p)) (sym (t .split ∙ ap (λ (x : List ℕ). t .taken ++ x) n ∙ append-nil (t .taken))) (t .holds)
+
+pub run-whole : (p : ℕ → Bool) → ((c : ℕ) → T (p c) → c < 128) → p 129 ≡ false → {u : List ℕ} → Star (Ch p) u → run p u ≡ length u
+unfolding kind
+run-whole p small n {u} s =
+    ap (run p) (sym (append-nil u))
+    ∙ run-complete p small (λ k. eqb k 129) (record { at = λ k h t. subst (λ (m : ℕ). T (not (p m))) (sym (eqb→eq k 129 t)) (rw n tt) }) [] s tt
+
 -- at least one
+pub star-plus : {L : Lang} {u : List ℕ} → Star L u → 0 < length u → Plus L u
+star-plus {u = u} (end e) h = absurd (let z : length u ≡ 0 = ap length e in omega arith)
+star-plus (more x y e l s) h = record { left = x; right = y; split = e; first = l; second = s }
+
 pub at-least-one : {r : Reader} {L F : Lang} {g : Class} (n : Refusal) (f : Class) → ((u : List ℕ) → L u → 0 < length u) → ((u v : List ℕ) → L u → T (f (kind (u ++ v))))
     → Reads r (Star L) F g → Reads (required n r) (Plus L) F f
 unfolding required
 at-least-one {r} {L} {F} {g} n f some-L lead a = record { sound = λ w k tw e. by-first w k tw (r w) refl e; complete = complete-by; leads = leads-by }
   where
-    plus : (u : List ℕ) → Star L u → 0 < length u → Plus L u
-    plus u (end e) h = absurd (let z : length u ≡ 0 = ap length e in omega arith)
-    plus u (more x y e l s) h = record { left = x; right = y; split = e; first = l; second = s }
-
     by-zero : (w : List ℕ) (k j : ℕ) → Took (Star L) j w → (t : Bool) → eqb j 0 ≡ t → pick t (err n) (ok j) ≡ ok k → Took (Plus L) k w
     by-zero w k j o true f e = absurd (err-ok n k e)
     by-zero w k j o false f e =
         let h : j ≡ 0 → ⊥ = λ z. false→no (eqb j 0) f (true→T (eqb j 0) (eqb-yes j 0 z)) in
         let l : length (o .taken) ≡ j = o .size in
-        record { taken = o .taken; rest = o .rest; split = o .split; size = o .size ∙ ok-inj j k e; holds = plus (o .taken) (o .holds) (omega arith); left = o .left }
+        record { taken = o .taken; rest = o .rest; split = o .split; size = o .size ∙ ok-inj j k e; holds = star-plus (o .holds) (omega arith); left = o .left }
 
     by-first : (w : List ℕ) (k : ℕ) → Text w → (x : Result) → r w ≡ x → on-ok x (λ j. pick (eqb j 0) (err n) (ok j)) ≡ ok k → Took (Plus L) k w
     by-first w k tw (err m) f e = absurd (err-ok m k e)
@@ -138,3 +154,8 @@ pub need : (q : Class) → Sub q not-space → Reads require-s S (Next q) space
 unfolding require-s S S?
 need q h =
     at-least-one no-space space ch-some (λ u v c. rw (c .bytes, kind-encode (c .char) v) (ascii-lead space space-ascii (c .char) (c .in-class))) (skip q h)
+
+-- what stands after white space
+pub past-space : {q : Class} → Sub q not-space → (x y : List ℕ) → S? x → T (q (kind y)) → drop (run space (x ++ y)) (x ++ y) ≡ y
+unfolding S?
+past-space {q} h x y s t = rw (run-complete space space-ascii q h y s t) (drop-append-seam x y)

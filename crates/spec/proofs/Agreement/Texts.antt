@@ -5,7 +5,7 @@ use mathlib.Core.Path.{_≡_, sym, subst}
 use Prim.Native.Nat.{ℕ}
 use Prim.Native.String.{String}
 use lib.Dec.{T}
-use Rattle.spec.specs.Grammar.Characters.{Text}
+use Rattle.spec.specs.Grammar.Characters.{Text, S, S?, space}
 use Rattle.spec.specs.Grammar.Languages.{Lang, lit, ascii, Ch, _·_, _∣_, inl, inr, Star, end, more, Plus, any, _∖_}
 use Rattle.spec.specs.Grammar.Names.{Dialect, Name}
 use Rattle.spec.specs.Grammar.References.{digit, hex-digit, CharRef, Unreferring, Referring}
@@ -39,6 +39,14 @@ texts-none u e = end e
 
 pub texts-plus : (d : ℕ → Bool) → Texts (Plus (Ch d))
 texts-plus d = texts-cat (texts-ch d) (texts-star (texts-ch d))
+
+pub texts-s : Texts S
+unfolding S
+texts-s = texts-plus space
+
+pub texts-s? : Texts S?
+unfolding S?
+texts-s? = texts-star (texts-ch space)
 
 pub texts-ref : Texts CharRef
 unfolding CharRef

@@ -1,14 +1,14 @@
 -- Literals in quotes, and external identifiers. Assumes nothing.
 use mathlib.Core.Logic
 use mathlib.Core.Bool.{Bool, true, false, _&&_, _||_, not, true≢false}
-use mathlib.Core.List.{List, [], _∷_, _++_, append-nil}
+use mathlib.Core.List.{List, [], _∷_, _++_}
 use mathlib.Core.Logic.{_⊎_}
-use mathlib.Core.Path.{_≡_, refl, sym, _∙_, ap, subst}
-use Prim.Native.Nat.{ℕ, suc, _+_, _<_}
+use mathlib.Core.Path.{_≡_, refl, sym, ap}
+use Prim.Native.Nat.{ℕ, suc, _<_}
 use Prim.Native.String.{String}
 use native.Mathlib.Omega.{arith}
-use lib.Dec.{T, ltb, eqb, eqb→eq}
-use lib.ListN.{length, length-append}
+use lib.Dec.{T, ltb, eqb}
+use lib.ListN.{length}
 use Rattle.spec.specs.Basics.{pick, within}
 use Rattle.spec.specs.Grammar.Characters.{Text}
 use Rattle.spec.specs.Grammar.Languages.{Lang, lit, ascii, Ch, _·_, inl, inr, Star, any, one-of, none-of}
@@ -18,9 +18,9 @@ use Rattle.spec.specs.Reading.Dtd.{parse-quoted, check-pubid, parse-exte
 use Rattle.spec.specs.Reading.Readers.{Result, ok, err, nothing, starts, run, before, up-to}
 use Rattle.spec.specs.Reading.Refusals.{Refusal, unterminated, no-literal, unexpected, bad-pubid}
 use Rattle.spec.proofs.Agreement.Choices.{on-word}
-use Rattle.spec.proofs.Agreement.Reads.{Took, Reads, Next, seq, weaken}
-use Rattle.spec.proofs.Agreement.Runs.{need, run-took, run-complete, among-ascii}
-use Rattle.spec.proofs.Agreement.Signs.{kind, Class, by-signs, sub-any, sub-refl}
+use Rattle.spec.proofs.Agreement.Reads.{Reads, Next, seq, weaken}
+use Rattle.spec.proofs.Agreement.Runs.{need, whole-run, run-whole, among-ascii}
+use Rattle.spec.proofs.Agreement.Signs.{Class, by-signs, sub-any, sub-refl}
 use Rattle.spec.proofs.Agreement.UpTo.{up-to-reads}
 use Rattle.spec.proofs.Agreement.Words.{wd}
 use Rattle.spec.proofs.Base.Results.{err-ok}
@@ -100,25 +100,6 @@ pubid-ascii c t = go₁ (or-cases (one-of " \r\n-'()+,./:=?;!*#@$_%" c || digit 
     go₁ : ((one-of " \r\n-'()+,./:=?;!*#@$_%" c || digit c || within 0x41 0x5A c) ≡ true) ⊎ (within 0x61 0x7A c ≡ true) → c < 128
     go₁ (Logic.inl e) = go₂ (or-cases (one-of " \r\n-'()+,./:=?;!*#@$_%" c || digit c) (within 0x41 0x5A c) e)
     go₁ (Logic.inr e) = omega (arith, within-hi 0x61 0x7A c e)
-
--- a run that is the whole text
-whole-run : (p : ℕ → Bool) → ((c : ℕ) → T (p c) → c < 128) → (u : List ℕ) → Text u → run p u ≡ length u → Star (Ch p) u
-whole-run p small u tu e =
-    let t : Took (Star (Ch p)) (run p u) u = run-took p small u tu in
-    let l : length u ≡ length (t .taken) + length (t .rest) = ap length (t .split) ∙ length-append (t .taken) (t .rest) in
-    let z : length (t .taken) ≡ run p u = t .size in
-    let n : t .rest ≡ [] = length-nil (t .rest) (omega arith) in
-    subst (Star (Ch p)) (sym (t .split ∙ ap (λ (x : List ℕ). t .taken ++ x) n ∙ append-nil (t .taken))) (t .holds)
-  where
-    length-nil : (x : List ℕ) → length x ≡ 0 → x ≡ []
-    length-nil [] e = refl
-    length-nil (b ∷ x) e = absurd (omega arith)
-
-run-whole : (p : ℕ → Bool) → ((c : ℕ) → T (p c) → c < 128) → p 129 ≡ false → {u : List ℕ} → Star (Ch p) u → run p u ≡ length u
-unfolding kind
-run-whole p small n {u} s =
-    ap (run p) (sym (append-nil u))
-    ∙ run-complete p small (λ k. eqb k 129) (record { at = λ k h t. subst (λ (m : ℕ). T (not (p m))) (sym (eqb→eq k 129 t)) (rw n tt) }) [] s tt
 
 pubid-inside : (a : ℕ) (p : ℕ → Bool) → a < 128 → p a ≡ false → ((c : ℕ) → T (p c) → T (pubid-char c)) → ((c : ℕ) → T (pubid-char c) → (c ≡ a → ⊥) → T (p c)) → Inside check-pubid (Star (Ch p)) a
 unfolding check-pubid

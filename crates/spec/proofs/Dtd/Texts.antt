@@ -2,7 +2,7 @@
 use mathlib.Core.Bool.{Bool, true, false}
 use mathlib.Core.List.{[]}
 use mathlib.Core.Path.{_≡_}
-use Rattle.spec.specs.Grammar.Characters.{Text, S, S?, space}
+use Rattle.spec.specs.Grammar.Characters.{Text, S}
 use Rattle.spec.specs.Grammar.Declarations.{Delimited, Unread, declared, PI, Comment, markupdecl}
 use Rattle.spec.specs.Grammar.Doctype.{intSubset, doctypedecl}
 use Rattle.spec.specs.Grammar.Languages.{Lang, lit, _·_, _∣_, Star, none-of}
@@ -11,7 +11,7 @@ use Rattle.spec.specs.Grammar.Names.{Dialect, NCName, PITarget, PERefere
 use Rattle.spec.specs.Reading.Dtd.{check-doctype}
 use Rattle.spec.proofs.Agreement.Accepts.{Agrees}
 use Rattle.spec.proofs.Agreement.Tame.{Within, tame-delimited, within-element}
-use Rattle.spec.proofs.Agreement.Texts.{Texts, texts-cat, texts-star, texts-lit, texts-ch, texts-either, texts-none, texts-plus, texts-name}
+use Rattle.spec.proofs.Agreement.Texts.{Texts, texts-cat, texts-star, texts-lit, texts-ch, texts-either, texts-none, texts-s, texts-s?, texts-name}
 use Rattle.spec.proofs.Dtd.Markup.{doctype-whole}
 use Rattle.spec.proofs.Dtd.Tame.{within-external, within-attlist, within-entity, within-notation}
 use Rattle.spec.proofs.Wellformed.Names.{AsciiNames}
@@ -29,14 +29,6 @@ texts-comment : Texts Comment
 unfolding Comment
 texts-comment =
     texts-cat (texts-lit "<!--" tt) (texts-cat (texts-star (texts-either (texts-ch (none-of "-")) (texts-cat (texts-lit "-" tt) (texts-ch (none-of "-"))))) (texts-cat (texts-either (texts-lit "-" tt) texts-none) (texts-lit "-->" tt)))
-
-texts-s : Texts S
-unfolding S
-texts-s = texts-plus space
-
-texts-s? : Texts S?
-unfolding S?
-texts-s? = texts-star (texts-ch space)
 
 module _ (D : Dialect) (A : AsciiNames D) where
   texts-instruction : Texts (PI D)

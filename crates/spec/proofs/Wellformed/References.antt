@@ -28,7 +28,7 @@ use Rattle.spec.proofs.Base.Tests.{T→true, true→T, false→no, eqb-
 use Rattle.spec.proofs.Characters.Bytes.{avoids-append, class-avoids, avoids}
 use Rattle.spec.proofs.Characters.Text.{text-rest, ascii-text, star-one}
 
-digit-ascii : (c : ℕ) → T (digit c) → c < 128
+pub digit-ascii : (c : ℕ) → T (digit c) → c < 128
 digit-ascii c t = omega (arith, within-hi 0x30 0x39 c (T→true (digit c) t))
 
 hex-ascii : (c : ℕ) → T (hex-digit c) → c < 128
@@ -150,7 +150,7 @@ ref-some (b ∷ u) c = omega arith
 abbrev pub Avoiding : ℕ → Lang → Type 0
 Avoiding a L = (u : List ℕ) → L u → avoids a u ≡ true
 
-avoiding-cat : (a : ℕ) {L M : Lang} → Avoiding a L → Avoiding a M → Avoiding a (L · M)
+pub avoiding-cat : (a : ℕ) {L M : Lang} → Avoiding a L → Avoiding a M → Avoiding a (L · M)
 avoiding-cat a f g u c = ap (avoids a) (c .split) ∙ avoids-append a (c .left) (c .right) ∙ (λ i. f (c .left) (c .first) i && g (c .right) (c .second) i)
 
 avoiding-star : (a : ℕ) {L : Lang} → Avoiding a L → Avoiding a (Star L)
@@ -160,7 +160,7 @@ avoiding-star a {L} f u s = go s
     go (end e) = ap (avoids a) e
     go (more x y e l s) = ap (avoids a) e ∙ avoids-append a x y ∙ (λ i. f x l i && go s i)
 
-avoiding-lit : (a : ℕ) (s : String) → avoids a (ascii s) ≡ true → Avoiding a (lit s)
+pub avoiding-lit : (a : ℕ) (s : String) → avoids a (ascii s) ≡ true → Avoiding a (lit s)
 avoiding-lit a s h u e = ap (avoids a) e ∙ h
 
 -- a sign that no reference has
@@ -172,7 +172,7 @@ pub record Foreign (a : ℕ) : Type 0 where
   pub no-digit : digit a ≡ false
   pub no-hex : hex-digit a ≡ false
 
-plus-avoiding : (a : ℕ) (d : ℕ → Bool) → a < 128 → d a ≡ false → Avoiding a (Plus (Ch d))
+pub plus-avoiding : (a : ℕ) (d : ℕ → Bool) → a < 128 → d a ≡ false → Avoiding a (Plus (Ch d))
 plus-avoiding a d l n = avoiding-cat a (λ u c. class-avoids d a l n (star-one c)) (λ u s. class-avoids d a l n s)
 
 pub avoiding-ref : (a : ℕ) → Foreign a → Avoiding a CharRef

@@ -1,13 +1,13 @@
 -- checks.rs: is_ncname says yes exactly to what Namespaces' NCName derives. Assumes nothing.
-use mathlib.Core.Path.{_≡_, refl, sym, ap, _∙_}
+use mathlib.Core.Path.{_≡_, refl, sym}
 use mathlib.Core.Bool.{Bool, true, false, _&&_, not, true≢false}
 use mathlib.Core.List.{List, [], _∷_}
 use Prim.Native.Nat.{ℕ}
 use lib.Dec.{eqb}
 use Rattle.spec.specs.Grammar.Characters.{Text}
-use Rattle.spec.specs.Grammar.Names.{Dialect, Name, NCName}
+use Rattle.spec.specs.Grammar.Names.{Dialect, NCName}
 use Rattle.spec.specs.Reading.Checks.{is-ncname}
-use Rattle.spec.specs.Reading.Readers.{Result, ok, err, number-of, contains}
+use Rattle.spec.specs.Reading.Readers.{number-of, contains}
 use Rattle.spec.specs.Reading.Wellformed.{check-name}
 use Rattle.spec.proofs.Agreement.Accepts.{Decides, zero-ok}
 use Rattle.spec.proofs.Agreement.Holds.{free-holds}
