@@ -1,0 +1,27 @@
+-- What stands at a place, as `byte_at` and `name_at` read it. Assumes nothing.
+use mathlib.Core.Path.{_≡_}
+use mathlib.Core.List.{List}
+use Prim.Native.Nat.{ℕ, _<_, _≤_}
+use borrow.Author.Needs.{needs}
+use lib.ListN.{length, getD, drop}
+use Rattle.spec.specs.Grammar.AppendixB.{appendix-B}
+use Rattle.spec.proofs.Base.Places.{drop-at, drop-end}
+use Rattle.names.specs.Names.{dialect}
+use Rattle.names.specs.NamePart.{NamePart}
+use Rattle.names.specs.declared.classes.Names.the-variants.{AppendixB}
+use Rattle.lent.specs.Places.{peeked}
+use Rattle.lent.specs.declared.places.Next.the-variants.{Byte, End}
+
+pub peeked-byte : (s : List ℕ) (i : ℕ) → i < length s → Byte (getD s i 0) ≡ peeked (drop i s)
+unfolding peeked
+peeked-byte s i h = rw (drop-at s i h)
+
+pub peeked-end : (s : List ℕ) (i : ℕ) → length s ≤ i → End ≡ peeked (drop i s)
+unfolding peeked
+peeked-end s i h = rw (drop-end s i h)
+
+pub in-appendix-B : (w p : List ℕ) → NamePart (dialect AppendixB) w p → NamePart appendix-B w p
+unfolding dialect
+in-appendix-B w p n = n
+
+pub ruleset reading = (peeked-byte, peeked-end, in-appendix-B, needs)
