@@ -1,1 +1,4 @@
 pub mod Deciding
+pub mod Valuing
+pub mod Equating
+pub mod Declaring

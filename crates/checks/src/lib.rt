@@ -1,4 +1,8 @@
-// checks.rs: the yes-or-no test of an NCName. The XML declaration, the quick scan and the gate join it.
+// checks.rs: the XML declaration, and the yes-or-no test of an NCName. (The quick scan is crate `scan`, the gate crate `gate`.)
+mod declaration;
 mod ncnames;
+mod values;
 
+pub use declaration::check_declaration;
+pub use declaration::declaration_number;
 pub use ncnames::is_ncname;

@@ -138,8 +138,11 @@ module _ (e : ℕ) (r : Answer) (b : r ≡ At e) (s : List ℕ) (at : ℕ) (a : 
   pub text-start : at + 1 ≤ e - 1
   text-start = omega (arith, literal .ends)
 
+  pub text-inside : e ≤ length s
+  text-inside = omega (arith, literal .ends, literal .inside, length-drop (at + 1) s, before-in (getD s at 0) (drop (at + 1) s) (literal .closes))
+
   pub text-end : e - 1 ≤ length s
-  text-end = omega (arith, literal .ends, literal .inside, length-drop (at + 1) s, before-in (getD s at 0) (drop (at + 1) s) (literal .closes))
+  text-end = omega (arith, text-inside)
 
   module _ (check : List ℕ → Result) (m : ℕ) (n : m ≡ number-of (check (take (e - 1 - (at + 1)) (drop (at + 1) s)))) where
     pub text-taken : m ≡ 0 → At e ≡ read (parse-quoted check) s at

@@ -1,0 +1,156 @@
+// The XML declaration: check_declaration of checks.rs and what it reads with. A place in the text stands for the rest that the Rust
+// hands on.
+use crate::values::Kind;
+use crate::values::is_value;
+use cursor::at_end;
+use cursor::eat_str;
+use cursor::parse_quoted;
+use cursor::require_s;
+use cursor::skip_s;
+use error::ACCEPTED;
+use error::Answer;
+use error::BAD_VALUE;
+use error::NO_SPACE;
+use error::UNEXPECTED;
+use source::admit;
+use wellformed::at_keyword;
+use wellformed::number;
+ghost use mathlib.Core.Path.{_≡_};
+ghost use Rattle.spec.specs.Grammar.XmlDecl.{XMLDecl};
+ghost use Rattle.spec.specs.Promises.{Checks};
+ghost use Rattle.spec.specs.Reading.Checks.{parse-eq-quoted, check-declaration};
+ghost use Rattle.spec.specs.Reading.Dtd.{require-s};
+ghost use Rattle.spec.specs.Reading.Readers.{number-of};
+ghost use Rattle.error.specs.Read.{read};
+ghost use Rattle.checks.specs.Pieces.{eq-quoted, pseudo-attr-of, after-version};
+ghost use Rattle.checks.specs.Values.{test-of};
+
+// The two ends of a value: its first byte, one past its opening quote, and its closing quote.
+pub struct Ends {
+    pub start: usize,
+    pub end: usize,
+}
+
+// What parse_eq_quoted finds: a value, or the number of the refusal.
+pub enum Quoted {
+    Value(Ends),
+    Refused(u8),
+}
+
+// S before 'version'
+fn require_leading_s(s: &[u8], at: usize) -> Answer
+    ensures { λ r. ⌜ r ≡ read require-s (now (s .entry)) at ⌝ }
+{
+    require_s(s, at)
+}
+
+// [25] Eq, and a literal in either quote, whose text is not looked at
+fn parse_eq_quoted(s: &[u8], at: usize) -> Quoted
+    ensures { λ r. ⌜ r ≡ eq-quoted (now (s .entry)) at ⌝ }
+{
+    let i = skip_s(s, at);
+    let r = eat_str(s, i, b"=", UNEXPECTED);
+    let Answer::At(i) = r else {
+        return Quoted::Refused(UNEXPECTED);
+    };
+    let open = skip_s(s, i);
+    let r = parse_quoted(s, open);
+    match r {
+        Answer::At(rest) => Quoted::Value(Ends {
+            start: open + 1,
+            end: rest - 1,
+        }),
+        Answer::No(n) => Quoted::Refused(n),
+    }
+}
+
+// Eq and a value of the kind, as [24], [80] and [32] end
+fn parse_value(s: &[u8], at: usize, kind: Kind) -> Answer
+    ensures { λ r. ⌜ r ≡ read (parse-eq-quoted (test-of kind)) (now (s .entry)) at ⌝ }
+{
+    let r = parse_eq_quoted(s, at);
+    match r {
+        Quoted::Value(v) => {
+            let start = v.start;
+            let end = v.end;
+            if is_value(&s[start..end], kind) {
+                return Answer::At(end + 1);
+            }
+            Answer::No(BAD_VALUE)
+        }
+        Quoted::Refused(n) => Answer::No(n),
+    }
+}
+
+// [80] EncodingDecl? or [32] SDDecl?, by its name. Where the name is not next after white space, nothing is read; where it is, the
+// white space must be there.
+fn pseudo_attr(s: &[u8], at: usize, name: &[u8], kind: Kind) -> Answer
+    ensures { λ r. ⌜ r ≡ read (pseudo-attr-of (now (name .entry)) (test-of kind)) (now (s .entry)) at ⌝ }
+{
+    let i = skip_s(s, at);
+    if at_keyword(s, i, name) {
+        if i == at {
+            return Answer::No(NO_SPACE);
+        }
+        return parse_value(s, i + name.len(), kind);
+    }
+    Answer::At(at)
+}
+
+// EncodingDecl? SDDecl? S? of [23], and then the end
+fn parse_after_version(s: &[u8], at: usize) -> Answer
+    ensures { λ r. ⌜ r ≡ read after-version (now (s .entry)) at ⌝ }
+{
+    let r = pseudo_attr(s, at, b"encoding", Kind::EncName);
+    let Answer::At(i) = r else {
+        return r;
+    };
+    let r = pseudo_attr(s, i, b"standalone", Kind::YesOrNo);
+    let Answer::At(i) = r else {
+        return r;
+    };
+    let i = skip_s(s, i);
+    at_end(s, i)
+}
+
+// [23] XMLDecl, what stands between `<?` and `?>`: [24] VersionInfo first
+fn parse_declaration(s: &[u8]) -> Answer
+    ensures { λ r. ⌜ r ≡ read check-declaration (now (s .entry)) 0 ⌝ }
+{
+    let r = eat_str(s, 0, b"xml", UNEXPECTED);
+    let Answer::At(i) = r else {
+        return r;
+    };
+    let r = require_leading_s(s, i);
+    let Answer::At(i) = r else {
+        return r;
+    };
+    let r = eat_str(s, i, b"version", UNEXPECTED);
+    let Answer::At(i) = r else {
+        return r;
+    };
+    let r = parse_value(s, i, Kind::VersionNum);
+    let Answer::At(i) = r else {
+        return r;
+    };
+    parse_after_version(s, i)
+}
+
+// The first refusal that the Rust meets, on any bytes.
+pub fn declaration_number(text: &[u8]) -> u8
+    ensures { λ r. ⌜ r ≡ number-of (check-declaration (now (text .entry))) ⌝ }
+{
+    let r = parse_declaration(text);
+    number(r)
+}
+
+// The public check: 1 and 2 come first.
+pub fn check_declaration(text: &[u8]) -> u8
+    ensures { λ r. ⌜ Checks check-declaration XMLDecl (now (text .entry)) r ⌝ }
+{
+    let n = admit(text);
+    if n != ACCEPTED {
+        return n;
+    }
+    declaration_number(text)
+}
