@@ -1,0 +1,4 @@
+pub mod Stepping
+pub mod Lending
+pub mod Lent
+pub mod LentAlone
