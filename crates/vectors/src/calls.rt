@@ -1,4 +1,4 @@
-// The calls that are known.
+// The calls that keep no record. (Those that do are in gates.rt.)
 use crate::bytes;
 use crate::reply::Reply;
 use names::Names;
@@ -42,6 +42,9 @@ fn number(word: &[u8], text: &[u8]) -> Reply {
     }
     if bytes::same(word, b"check_name") {
         return Reply::Number(names::check_name(text));
+    }
+    if bytes::same(word, b"check_declaration") {
+        return Reply::Number(checks::check_declaration(text));
     }
     Reply::Unknown
 }

@@ -6,6 +6,7 @@ ghost use lib.ListN.{length};
 
 mod bytes;
 mod calls;
+mod gates;
 mod line;
 mod repeat;
 mod reply;

@@ -1,7 +1,7 @@
 // Comparing and counting.
 use crate::bytes;
 use crate::bytes::Word;
-use crate::calls;
+use crate::gates;
 use crate::line;
 use crate::line::Kind;
 use crate::line::Line;
@@ -9,14 +9,16 @@ use crate::reply;
 use crate::reply::Reply;
 use crate::report;
 use crate::text;
+use gate::Gate;
 
 // How many lines there were, how many of them were vectors, and of these how many differ and how many
-// have a call that is not known.
+// have a call that is not known; and the gate's record, which goes from line to line.
 pub struct Tally {
     pub lines: u64,
     pub vectors: u64,
     pub differ: u64,
     pub unknown: u64,
+    pub gate: Gate,
 }
 
 // What came of a vector.
@@ -27,11 +29,13 @@ enum Outcome {
 }
 
 pub fn fresh() -> Tally {
+    let gate = gates::fresh();
     Tally {
         lines: 0,
         vectors: 0,
         differ: 0,
         unknown: 0,
+        gate,
     }
 }
 
@@ -50,10 +54,29 @@ pub fn close(tally: Tally, line: Line, call: &Word, answer: &Word, out: &mut [u8
         Kind::Vector => {
             let word = bytes::front(call, line.call);
             let wanted = bytes::front(answer, line.answer);
-            let reply = calls::reply(word, bytes::front(out, text.length));
-            let outcome = compare(now.lines, word, wanted, reply);
-            counted(now, outcome)
+            answered(now, word, wanted, bytes::front(out, text.length))
         }
+    }
+}
+
+// The tally after a vector whose line is counted.
+fn answered(tally: Tally, word: &[u8], wanted: &[u8], text: &[u8]) -> Tally {
+    let before = tally.gate;
+    let step = gates::step(before, word, wanted, text);
+    let reply = step.reply;
+    let outcome = compare(tally.lines, word, wanted, reply);
+    let after = step.gate;
+    counted(with_gate(tally, after), outcome)
+}
+
+// The tally with the gate's record as a line left it.
+fn with_gate(tally: Tally, gate: Gate) -> Tally {
+    Tally {
+        lines: tally.lines,
+        vectors: tally.vectors,
+        differ: tally.differ,
+        unknown: tally.unknown,
+        gate,
     }
 }
 

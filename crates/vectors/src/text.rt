@@ -131,7 +131,7 @@ fn repeated(text: Text, count: usize, out: &mut [u8]) -> Text {
 }
 
 // The value of a hexadecimal digit, or 16 where `byte` is none.
-fn digit(byte: u8) -> u8
+pub fn digit(byte: u8) -> u8
     ensures { λ r. ⌜ r ≤ 16 ⌝ }
 {
     match byte {
@@ -142,7 +142,7 @@ fn digit(byte: u8) -> u8
     }
 }
 
-fn wide(x: u8) -> usize
+pub fn wide(x: u8) -> usize
     ensures { λ r. ⌜ r < 256 ⌝ }
 {
     x as usize
