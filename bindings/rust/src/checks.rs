@@ -1,0 +1,108 @@
+use crate::refusal::{verdict, Refusal};
+use crate::sys;
+
+/// No longer text is looked at.
+pub const LIMIT: usize = 1_048_576;
+
+/// Every character is one that XML allows (production 2).
+///
+/// ```
+/// use moxkeldi::{check_chars, Refusal};
+/// assert_eq!(check_chars("σῶμα".as_bytes()), Ok(()));
+/// assert_eq!(check_chars(b"a\x01b"), Err(Refusal::IllegalCharacter));
+/// ```
+pub fn check_chars(text: &[u8]) -> Result<(), Refusal> {
+    verdict(sys::check_chars(text))
+}
+
+/// Character data between tags: allowed characters, no `]]>`, character references in order.
+///
+/// ```
+/// use moxkeldi::{check_text, Refusal};
+/// assert_eq!(check_text(b"&#169; 2026"), Ok(()));
+/// assert_eq!(check_text(b"a]]>b"), Err(Refusal::CdataEnd));
+/// ```
+pub fn check_text(text: &[u8]) -> Result<(), Refusal> {
+    verdict(sys::check_text(text))
+}
+
+/// An attribute's value, without its quotes: allowed characters, no `<`, character references in order.
+///
+/// ```
+/// use moxkeldi::{check_attr_value, Refusal};
+/// assert_eq!(check_attr_value(b"it's \"quoted\""), Ok(()));
+/// assert_eq!(check_attr_value(b"a<b"), Err(Refusal::LessThan));
+/// ```
+pub fn check_attr_value(text: &[u8]) -> Result<(), Refusal> {
+    verdict(sys::check_attr_value(text))
+}
+
+/// Only the character references of a text.
+///
+/// ```
+/// use moxkeldi::{check_char_refs, Refusal};
+/// assert_eq!(check_char_refs(b"&#65; &#x41; &amp;"), Ok(()));
+/// assert_eq!(check_char_refs(b"&#X41;"), Err(Refusal::BadReference));
+/// assert_eq!(check_char_refs(b"&#4294967361;"), Err(Refusal::IllegalReference));
+/// ```
+pub fn check_char_refs(text: &[u8]) -> Result<(), Refusal> {
+    verdict(sys::check_char_refs(text))
+}
+
+/// The whole text is one name (production 5), with the letters of XML 1.0's Appendix B.
+///
+/// ```
+/// use moxkeldi::{check_name, Refusal};
+/// assert_eq!(check_name(b"job:datum"), Ok(()));
+/// assert_eq!(check_name(b"1st"), Err(Refusal::BadName));
+/// ```
+pub fn check_name(text: &[u8]) -> Result<(), Refusal> {
+    verdict(sys::check_name(text))
+}
+
+/// A DOCTYPE: the text between `<!DOCTYPE` and its closing `>`, with the internal subset and every declaration in it.
+///
+/// It does not look for characters that XML does not allow; [`Gate::doctype`](crate::Gate::doctype) does.
+///
+/// ```
+/// use moxkeldi::{check_doctype, Refusal};
+/// assert_eq!(check_doctype(b" job [<!ELEMENT job (leg+)>]"), Ok(()));
+/// assert_eq!(check_doctype(b" job [<!ELEMENT job (a,b|c)>]"), Err(Refusal::ContentModel));
+/// ```
+pub fn check_doctype(text: &[u8]) -> Result<(), Refusal> {
+    verdict(sys::check_doctype(text))
+}
+
+/// An XML declaration: the text between `<?` and `?>`.
+///
+/// ```
+/// use moxkeldi::{check_declaration, Refusal};
+/// assert_eq!(check_declaration(b"xml version=\"1.0\" encoding='UTF-8'"), Ok(()));
+/// assert_eq!(check_declaration(b"xml version=\"2.0\""), Err(Refusal::DeclarationValue));
+/// ```
+pub fn check_declaration(text: &[u8]) -> Result<(), Refusal> {
+    verdict(sys::check_declaration(text))
+}
+
+/// The bytes are UTF-8, and at most [`LIMIT`] of them.
+///
+/// ```
+/// use moxkeldi::{is_utf8, Refusal};
+/// assert_eq!(is_utf8("é".as_bytes()), Ok(()));
+/// assert_eq!(is_utf8(b"\xed\xa0\x80"), Err(Refusal::NotUtf8));
+/// ```
+pub fn is_utf8(text: &[u8]) -> Result<(), Refusal> {
+    verdict(sys::is_utf8(text))
+}
+
+/// Whether the whole text is a name without a colon. Only [`Refusal::TooLong`] and [`Refusal::NotUtf8`] are errors here.
+///
+/// ```
+/// use moxkeldi::is_ncname;
+/// assert_eq!(is_ncname(b"datum"), Ok(true));
+/// assert_eq!(is_ncname(b"job:datum"), Ok(false));
+/// ```
+pub fn is_ncname(text: &[u8]) -> Result<bool, Refusal> {
+    let (number, yes) = sys::is_ncname(text);
+    verdict(number).map(|()| yes)
+}

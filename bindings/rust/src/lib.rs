@@ -1,0 +1,45 @@
+//! Checks of an XML document's DOCTYPE and XML declaration.
+//!
+//! The work is done by libmoxkeldi.a, a port of the declaration part of fastxml that is proved to end and to stay within its
+//! arguments on all bytes, and to accept exactly what a grammar written from W3C XML 1.0 derives. This crate is the thin safe layer
+//! over it. The proof does not cover this layer; its tests do.
+//!
+//! ```
+//! use moxkeldi::{check_doctype, Refusal};
+//!
+//! // the text between `<!DOCTYPE` and its closing `>`
+//! assert_eq!(check_doctype(b" job SYSTEM \"job.dtd\""), Ok(()));
+//! assert_eq!(check_doctype(b" job [<!ATTLIST job datum CDATA \"&#0;\">]"), Err(Refusal::IllegalReference));
+//! ```
+//!
+//! A document's declaration and DOCTYPE together go through a [`Gate`]:
+//!
+//! ```
+//! use moxkeldi::{Doctype, Gate, Phase};
+//!
+//! let mut gate = Gate::default();
+//! gate.decl(b"xml version=\"1.0\"")?;
+//! assert_eq!(gate.doctype(Phase::Prolog, b" job")?, Doctype::Checked);
+//! # Ok::<(), moxkeldi::Refusal>(())
+//! ```
+//!
+//! Texts are bytes, since "not UTF-8" is one of the answers. No text of more than [`LIMIT`] bytes is looked at.
+//!
+//! The build takes the archive that the environment variable `MOXKELDI_LIB` names (a whole path), or runs `rt staticlib moxkeldi`.
+
+#![deny(missing_docs)]
+#![deny(unsafe_code)]
+
+mod checks;
+mod gate;
+mod refusal;
+mod scan;
+mod sys;
+
+pub use checks::{
+    check_attr_value, check_char_refs, check_chars, check_declaration, check_doctype, check_name,
+    check_text, is_ncname, is_utf8, LIMIT,
+};
+pub use gate::{Doctype, Gate, Phase};
+pub use refusal::Refusal;
+pub use scan::{scan, Scan};

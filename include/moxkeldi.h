@@ -1,0 +1,141 @@
+/*
+ * Moxkeldi: checks of an XML document's DOCTYPE and XML declaration.
+ *
+ * Link with libmoxkeldi.a (x86-64 Linux), which `rt staticlib moxkeldi` writes to target/staticlib/. It needs no other library.
+ *
+ * Every function takes a text as its bytes and answers with a number: 0 where the text is accepted, else the reason why not
+ * (enum moxkeldi_number). Every function ends and stays within its arguments on all bytes; nothing has to be checked beforehand.
+ *
+ * What a caller owes:
+ *   - `text` points to `len` bytes that can be read. It is never NULL, also where `len` is 0: give any valid address then, as "".
+ *     The text needs no final 0; a 0 inside it is a byte like any other.
+ *   - The other pointers are not NULL, are aligned for their type, and point to memory that neither the text nor another
+ *     argument of the call shares.
+ *   - A bool that the library reads (the fields of moxkeldi_gate) holds 0 or 1.
+ *
+ * Threads: the library keeps nothing between calls but what is in the caller's own moxkeldi_gate. Any calls may run at the same
+ * time as long as no two of them work on the same record.
+ */
+#ifndef MOXKELDI_H
+#define MOXKELDI_H
+
+#include <stdbool.h>
+#include <stddef.h>
+#include <stdint.h>
+
+#ifdef __cplusplus
+extern "C" {
+#endif
+
+/*
+ * The numbers. 1 comes before 2 and 2 before the others; among the others it is the first one that is met in reading.
+ */
+enum moxkeldi_number {
+    MOXKELDI_ACCEPTED = 0,
+    MOXKELDI_TOO_LONG = 1,            /* longer than MOXKELDI_LIMIT bytes */
+    MOXKELDI_NOT_UTF8 = 2,            /* the bytes are not UTF-8 (RFC 3629) */
+    MOXKELDI_SPACE_REQUIRED = 3,      /* white space is required */
+    MOXKELDI_BAD_NAME = 4,            /* a name, a token or an instruction's target is bad or missing */
+    MOXKELDI_COLON = 5,               /* a colon in the name of an entity or a notation, or in an instruction's target */
+    MOXKELDI_LITERAL_MISSING = 6,     /* a quoted literal is missing */
+    MOXKELDI_UNTERMINATED = 7,        /* a literal, a declaration, a comment, an instruction or the subset does not end */
+    MOXKELDI_UNEXPECTED = 8,          /* another sign or word was expected; also a conditional section */
+    MOXKELDI_TRAILING = 9,            /* something is left over at the end */
+    MOXKELDI_PUBLIC_ID = 10,          /* a character that a public identifier must not hold */
+    MOXKELDI_RESERVED_TARGET = 11,    /* an instruction with the target xml, in any case */
+    MOXKELDI_DOUBLE_HYPHEN = 12,      /* -- in a comment */
+    MOXKELDI_CONTENT_MODEL = 13,      /* , and | in one group; or a mixed model with names that does not end in )* */
+    MOXKELDI_LESS_THAN = 14,          /* < in an attribute's value or default */
+    MOXKELDI_BAD_REFERENCE = 15,      /* a malformed character reference */
+    MOXKELDI_ILLEGAL_REFERENCE = 16,  /* a reference to a character that XML does not allow */
+    MOXKELDI_DECLARATION_VALUE = 17,  /* the value of version, encoding or standalone */
+    MOXKELDI_ILLEGAL_CHARACTER = 18,  /* a character that XML does not allow */
+    MOXKELDI_CDATA_END = 19,          /* ]]> in text */
+    MOXKELDI_TOO_DEEP = 20,           /* a 65th open group in a content model */
+    MOXKELDI_OUT_OF_PLACE = 21        /* gate: the declaration is not first, a second DOCTYPE, or not in the prolog */
+};
+
+/* No longer text is looked at. */
+#define MOXKELDI_LIMIT 1048576
+
+/*
+ * The checks. The answer is 0 (accepted) or one of 1 to 20.
+ */
+
+/* Every character is one that XML allows (production 2). */
+uint8_t moxkeldi_check_chars(const uint8_t *text, size_t len);
+
+/* Character data between tags: allowed characters, no ]]>, character references in order. */
+uint8_t moxkeldi_check_text(const uint8_t *text, size_t len);
+
+/* An attribute's value, without its quotes: allowed characters, no <, character references in order. */
+uint8_t moxkeldi_check_attr_value(const uint8_t *text, size_t len);
+
+/* Only the character references (&#65; &#x41;) of a text. */
+uint8_t moxkeldi_check_char_refs(const uint8_t *text, size_t len);
+
+/* The whole text is one name (production 5), with the letters of XML 1.0's Appendix B. */
+uint8_t moxkeldi_check_name(const uint8_t *text, size_t len);
+
+/* A DOCTYPE: the text between `<!DOCTYPE` and its closing `>`, with the internal subset and every declaration in it.
+   It does not look for characters that XML does not allow; moxkeldi_doctype below does. */
+uint8_t moxkeldi_check_doctype(const uint8_t *text, size_t len);
+
+/* An XML declaration: the text between `<?` and `?>`, as in  xml version="1.0" encoding="UTF-8"  */
+uint8_t moxkeldi_check_declaration(const uint8_t *text, size_t len);
+
+/* Yes is 0, no is 2; 1 for a text that is too long. */
+uint8_t moxkeldi_is_utf8(const uint8_t *text, size_t len);
+
+/* Whether the whole text is a name without a colon. The answer is 0, 1 or 2; *yes is true or false with 0, and false with 1 and 2. */
+uint8_t moxkeldi_is_ncname(const uint8_t *text, size_t len, bool *yes);
+
+/*
+ * The quick scan: where does the internal subset of a DOCTYPE close? The text is the front part, of any length, of what stands
+ * after `<!DOCTYPE`. The answer is 0, 1 or 2. With 0, *answer is one of the three below, and with MOXKELDI_SCAN_CLOSED *place is
+ * the place of the closing ], counted from 0 at the text's first byte; read *place only then. With 1 and 2, *answer and *place
+ * are left as they were.
+ */
+#define MOXKELDI_SCAN_NOT_OPENED 0 /* there is no [ yet */
+#define MOXKELDI_SCAN_NOT_CLOSED 1 /* there is a [ and no ] yet that closes it */
+#define MOXKELDI_SCAN_CLOSED 2
+
+uint8_t moxkeldi_scan(const uint8_t *text, size_t len, uint8_t *answer, size_t *place);
+
+/*
+ * The gate: one record for each document, all zero to begin with, and lent to both calls in the order in which the declaration
+ * and the DOCTYPE stand in the document.
+ */
+typedef struct {
+    bool started;     /* a call has looked at its text: an XML declaration can no longer be first */
+    bool seen;        /* a DOCTYPE has been seen */
+    bool open;        /* a DOCTYPE's subset was not closed */
+    uint16_t refused; /* refusals so far, held at 65535 */
+} moxkeldi_gate;
+
+/* Not a refusal: the DOCTYPE's subset opens and the text ends before it closes, so its grammar was not checked. */
+#define MOXKELDI_OPEN 255
+
+/* Where in the document a DOCTYPE was met. */
+#define MOXKELDI_PROLOG 0 /* before the root element */
+#define MOXKELDI_ROOT 1   /* within it */
+#define MOXKELDI_EPILOG 2 /* after it */
+
+/*
+ * An XML declaration (text as for moxkeldi_check_declaration). 21 where `started` is set; else `started` is set and the
+ * declaration checked. Every refusal adds one to `refused`; 1 and 2 change nothing else in the record.
+ */
+uint8_t moxkeldi_decl(moxkeldi_gate *gate, const uint8_t *text, size_t len);
+
+/*
+ * A DOCTYPE (text as for moxkeldi_check_doctype). In this order: sets `started`; 18 for a character that XML does not allow; 21
+ * where `seen` is set or `phase` is anything but MOXKELDI_PROLOG; sets `seen`; where the quick scan says "not closed", sets
+ * `open` and answers MOXKELDI_OPEN; else checks the grammar. Refusals are counted as above.
+ */
+uint8_t moxkeldi_doctype(moxkeldi_gate *gate, uint8_t phase, const uint8_t *text, size_t len);
+
+#ifdef __cplusplus
+}
+#endif
+
+#endif
