@@ -1,0 +1,118 @@
+//! The Rust and the port on damaged copies of the lists' texts and on generated texts, as a seed fixes them.
+use crate::damage::damaged;
+use crate::generate::Generator;
+use crate::random::Random;
+use crate::{difference, port};
+use oracle::{Gate, Record, answer, record_text};
+
+#[rustfmt::skip]
+const CALLS: &[&str] = &[
+    "check_doctype", "check_doctype", "check_doctype", "check_doctype", "scan", "scan", "check_declaration",
+    "check_chars", "check_text", "check_attr_value", "check_char_refs", "check_name", "is_ncname", "utf8",
+];
+const GATE_CALLS: &[&str] = &[
+    "decl", "decl", "doctype0", "doctype0", "doctype0", "doctype1", "doctype2",
+];
+
+/// The lists' texts by what they were written for.
+#[derive(Default)]
+pub struct Samples {
+    kinds: [Vec<Vec<u8>>; 4],
+}
+
+impl Samples {
+    pub fn add(&mut self, call: &str, text: Vec<u8>) {
+        self.kinds[kind(call)].push(text);
+    }
+}
+
+fn kind(call: &str) -> usize {
+    match call {
+        "check_doctype" | "scan" | "doctype0" | "doctype1" | "doctype2" => 0,
+        "check_declaration" | "decl" => 1,
+        "check_name" | "is_ncname" | "name_part" => 2,
+        _ => 3,
+    }
+}
+
+/// How many calls were made and how many of them differ.
+pub fn run(seed: u64, count: u64, samples: &Samples) -> (u64, u64) {
+    let mut random = Random::new(seed);
+    let (mut made, mut differ) = (0, 0);
+    while made < count {
+        let (calls, differences) = if random.once_in(5) {
+            gate(&mut random, samples)
+        } else {
+            (1, single(&mut random, samples))
+        };
+        made += calls;
+        differ += differences;
+    }
+    (made, differ)
+}
+
+/// Half of the texts are generated and half are those of the lists; a third of them stay whole.
+fn text(random: &mut Random, call: &str, samples: &Samples) -> Vec<u8> {
+    let alike = &samples.kinds[kind(call)];
+    let whole = if alike.is_empty() || random.once_in(2) {
+        Generator { random }.text(call).into_bytes()
+    } else {
+        alike[random.below(alike.len())].clone()
+    };
+    if random.once_in(3) {
+        return whole;
+    }
+    let any = &samples.kinds[random.below(samples.kinds.len())];
+    let other = if any.is_empty() {
+        &whole
+    } else {
+        &any[random.below(any.len())]
+    };
+    damaged(random, &whole, other)
+}
+
+fn single(random: &mut Random, samples: &Samples) -> u64 {
+    let call = random.one(CALLS);
+    let text = text(random, call, samples);
+    let (wanted, given) = (
+        answer(call, &text).unwrap(),
+        port::answer(call, &text).unwrap(),
+    );
+    if wanted == given {
+        return 0;
+    }
+    difference(call, &wanted, &given, &text, usize::MAX);
+    1
+}
+
+/// One to six calls on a record that begins anywhere, and often where a document begins.
+fn gate(random: &mut Random, samples: &Samples) -> (u64, u64) {
+    let mut record = Record::default();
+    if random.once_in(3) {
+        let refused = [0, 1, 65_534, 65_535, random.below(65_536) as u16][random.below(5)];
+        record = Record {
+            started: random.once_in(2),
+            seen: random.once_in(2),
+            open: random.once_in(2),
+            refused,
+        };
+    }
+    let (mut rust, mut port) = (Gate::new(record), port::Gate::new(record));
+    let calls = 1 + random.below(6) as u64;
+    for k in 0..calls {
+        let call = random.one(GATE_CALLS);
+        let text = text(random, call, samples);
+        let before = rust.record();
+        let number = rust.answer(call, &text).unwrap();
+        let (wanted, given) = (
+            record_text(number, &rust.record()),
+            port.answer(call, &text).unwrap(),
+        );
+        if wanted != given {
+            let call = format!("{call} on {before:?}");
+            difference(&call, &wanted, &given, &text, usize::MAX);
+            return (k + 1, 1);
+        }
+    }
+    (calls, 0)
+}

@@ -1,0 +1,124 @@
+//! The calls of libmoxkeldi.a (include/moxkeldi.h), answered as the lists write them. Both `compare` and the benchmark use it.
+use oracle::Record;
+
+/// `moxkeldi_gate`, with bytes for the bools: a byte that is neither 0 nor 1 is then seen as a difference.
+#[repr(C)]
+struct RawGate {
+    started: u8,
+    seen: u8,
+    open: u8,
+    refused: u16,
+}
+
+pub type Check = unsafe extern "C" fn(*const u8, usize) -> u8;
+
+unsafe extern "C" {
+    fn moxkeldi_check_chars(text: *const u8, len: usize) -> u8;
+    fn moxkeldi_check_text(text: *const u8, len: usize) -> u8;
+    fn moxkeldi_check_attr_value(text: *const u8, len: usize) -> u8;
+    fn moxkeldi_check_char_refs(text: *const u8, len: usize) -> u8;
+    fn moxkeldi_check_name(text: *const u8, len: usize) -> u8;
+    fn moxkeldi_check_doctype(text: *const u8, len: usize) -> u8;
+    fn moxkeldi_check_declaration(text: *const u8, len: usize) -> u8;
+    fn moxkeldi_is_utf8(text: *const u8, len: usize) -> u8;
+    fn moxkeldi_is_ncname(text: *const u8, len: usize, yes: *mut u8) -> u8;
+    fn moxkeldi_scan(text: *const u8, len: usize, answer: *mut u8, place: *mut usize) -> u8;
+    fn moxkeldi_decl(gate: *mut RawGate, text: *const u8, len: usize) -> u8;
+    fn moxkeldi_doctype(gate: *mut RawGate, phase: u8, text: *const u8, len: usize) -> u8;
+}
+
+/// The calls whose answer is a number and nothing more, by their names in the lists.
+pub const CHECKS: &[(&str, Check)] = &[
+    ("check_chars", moxkeldi_check_chars),
+    ("check_text", moxkeldi_check_text),
+    ("check_attr_value", moxkeldi_check_attr_value),
+    ("check_char_refs", moxkeldi_check_char_refs),
+    ("check_name", moxkeldi_check_name),
+    ("check_doctype", moxkeldi_check_doctype),
+    ("check_declaration", moxkeldi_check_declaration),
+];
+
+pub fn is_utf8(text: &[u8]) -> u8 {
+    unsafe { moxkeldi_is_utf8(text.as_ptr(), text.len()) }
+}
+
+/// The number and what `*yes` holds after the call; it holds `before` before.
+pub fn is_ncname(text: &[u8], before: u8) -> (u8, u8) {
+    let mut yes = before;
+    let number = unsafe { moxkeldi_is_ncname(text.as_ptr(), text.len(), &mut yes) };
+    (number, yes)
+}
+
+/// The number, and what `*answer` and `*place` hold after the call.
+pub fn scan(text: &[u8], mut answer: u8, mut place: usize) -> (u8, u8, usize) {
+    let number = unsafe { moxkeldi_scan(text.as_ptr(), text.len(), &mut answer, &mut place) };
+    (number, answer, place)
+}
+
+/// The answer of a call without a record; None where there is no such call.
+pub fn answer(call: &str, text: &[u8]) -> Option<String> {
+    if let Some((_, check)) = CHECKS.iter().find(|(name, _)| *name == call) {
+        return Some(unsafe { check(text.as_ptr(), text.len()) }.to_string());
+    }
+    Some(match call {
+        "utf8" => match is_utf8(text) {
+            0 => "0y".to_string(),
+            number => format!("{number}n"),
+        },
+        "is_ncname" => match is_ncname(text, 1) {
+            (number, 0) => format!("{number}n"),
+            (number, 1) => format!("{number}y"),
+            (number, other) => format!("{number} with the bool {other}"),
+        },
+        // a refused scan leaves both as they were
+        "scan" => match scan(text, 77, usize::MAX) {
+            (0, 0, _) => "o".to_string(),
+            (0, 1, _) => "c".to_string(),
+            (0, 2, place) => format!("p{place}"),
+            (number, 77, usize::MAX) => number.to_string(),
+            (number, answer, place) => {
+                format!("{number} with the answer {answer} and the place {place}")
+            }
+        },
+        _ => return None,
+    })
+}
+
+pub struct Gate(RawGate);
+
+impl Gate {
+    pub fn new(record: Record) -> Gate {
+        Gate(RawGate {
+            started: record.started as u8,
+            seen: record.seen as u8,
+            open: record.open as u8,
+            refused: record.refused,
+        })
+    }
+
+    /// The answer of `decl` or `doctype0` to `doctype2`, with the record after it.
+    pub fn answer(&mut self, call: &str, text: &[u8]) -> Option<String> {
+        let (gate, start, len) = (&mut self.0, text.as_ptr(), text.len());
+        let number = unsafe {
+            match call {
+                "decl" => moxkeldi_decl(gate, start, len),
+                "doctype0" => moxkeldi_doctype(gate, 0, start, len),
+                "doctype1" => moxkeldi_doctype(gate, 1, start, len),
+                "doctype2" => moxkeldi_doctype(gate, 2, start, len),
+                _ => return None,
+            }
+        };
+        let first = if number == 255 {
+            "open".to_string()
+        } else {
+            number.to_string()
+        };
+        let RawGate {
+            started,
+            seen,
+            open,
+            refused,
+        } = self.0;
+        Some(format!("{first}/{started}/{seen}/{open}/{refused}"))
+    }
+}
