@@ -34,14 +34,16 @@ pub fn decl_step(g: Gate, text: &[u8]) -> Declared
             number: OUT_OF_ORDER,
         };
     }
-    let started = Gate {
-        started: true,
+    let m = declaration_number(text);
+    // Whatever the check says, something was read.
+    let started = true;
+    let begun = Gate {
+        started,
         seen: g.seen,
         open: g.open,
         refused: g.refused,
     };
-    let m = declaration_number(text);
-    let gate = counted(started, m);
+    let gate = counted(begun, m);
     Declared { gate, number: m }
 }
 
