@@ -1,11 +1,12 @@
 -- Names at a place in a text: the code's loop over name characters, for any classes. Assumes nothing.
 use mathlib.Core.Path.{_≡_, refl, sym, ap, subst, _∙_}
-use mathlib.Core.Bool.{Bool, true, false}
+use mathlib.Core.Bool.{Bool, true, false, _||_, not, true≢false}
 use mathlib.Core.List.{List}
 use Prim.Native.Nat.{ℕ, _+_, _-_, _<_, _≤_}
 use native.Mathlib.Nat.{add-assoc, add-zero, zero-add, min-eq-left}
 use native.Mathlib.Omega.{arith}
 use borrow.Author.Needs.{needs}
+use borrow.Author.Tests.{not-true, not-false}
 use lib.ListN.{length, take, drop, getD, length-drop, length-take}
 use lib.Seq.{drop-drop, take-nil}
 use Rattle.spec.specs.Grammar.Names.{Dialect, Name}
@@ -13,6 +14,7 @@ use Rattle.spec.specs.Reading.Refusals.{number, bad-name}
 use Rattle.spec.specs.Reading.Utf8.{decode1}
 use Rattle.spec.specs.Reading.Readers.{Result, ok, err, number-of, taken, past, _>>_, at-end, char}
 use Rattle.spec.specs.Reading.Wellformed.{parts, name, name-length, check-name}
+use Rattle.spec.proofs.Base.Tests.{or-false-left, or-false-right}
 use Rattle.spec.proofs.Base.Places.{drop-at, drop-end}
 use Rattle.spec.proofs.Wellformed.LongestName.{char-is, char-not, char-none, chars-stop, chars-turn, parts-ok, name-first, name-none, Named, a-name, no-name, named, name-within, name-is-name, name-longest}
 use Rattle.source.specs.Seen.{seen}
@@ -20,7 +22,7 @@ use Rattle.source.specs.declared.Point.{Point}
 use Rattle.source.specs.declared.Point.the-variants.{Is, Not}
 use Rattle.source.proofs.Points.{code-at, none-at, point-fits, point-less}
 use Rattle.source.proofs.Decoding.{code-one}
-use Rattle.names.specs.Names.{dialect, ascii-part, AsciiRun}
+use Rattle.names.specs.Names.{dialect, ascii-start, ascii-part, AsciiRun, AnyName}
 use Rattle.names.specs.NamePart.{NamePart}
 use Rattle.names.specs.declared.classes.Names.{Names}
 use Rattle.names.proofs.ClassLaws.{start-low, part-low, sign-low}
@@ -152,6 +154,45 @@ module _ (D : Dialect) (w : List ℕ) (e : ℕ) (f : e ≡ 0 + name-length D (dr
       go (a-name k p g t) = let l : length w ≤ k = omega (arith, ends-at (ok k) g) in rw (g, drop-end w k l)
       go (no-name g n) = absurd (some (ends-at (err bad-name) g))
 
+-- a name of ASCII alone, whatever the edition: the name at the front of w goes on at i
+pub record Front (w : List ℕ) (i : ℕ) : Type 0 where
+  pub some : 1 ≤ i
+  pub onward : (names : Names) → i + taken (parts (dialect names) (drop i w)) ≡ 0 + name-length (dialect names) (drop 0 w)
+
+module _ (w : List ℕ) (t : Bool) where
+  pub front-start : (length w ≡ 0 → ⊥) → t ≡ ascii-start (getD w 0 0) → not t ≡ false → Front w 1
+  front-start h e n =
+      let y : t ≡ true = not-false t n in
+      let l : getD w 0 0 < 128 = sign-low (getD w 0 0) (rw (sym e ∙ y)) in
+      record {
+        some = omega arith;
+        onward = λ names. name-go (dialect names) w 0 1 _ (one-low (dialect names .start) w 0 t (start-low names (getD w 0 0) t l e) (omega arith) l y) refl;
+      }
+
+  pub front-go : (i : ℕ) (found : Bool) → (found ≡ false → Front w i) → i < length w → t ≡ ascii-part (getD w i 0) → found || not t ≡ false → Front w (i + 1)
+  front-go i found inv h e f =
+      let y : t ≡ true = not-false t (or-false-right found (not t) f) in
+      let l : getD w i 0 < 128 = sign-low (getD w i 0) (sym e ∙ y) in
+      let a = inv (or-false-left found (not t) f) in
+      record {
+        some = omega (arith, a .some);
+        onward = λ names. parts-go (dialect names) w i _ (a .onward names) 1 (one-low (dialect names .part) w i t (part-low names (getD w i 0) t l e) h l y);
+      }
+
+  pub front-whole : (i : ℕ) → (t ≡ false → Front w i) → length w ≤ i → not t ≡ true → AnyName w
+  front-whole i inv h e =
+      let a = inv (not-true t e) in
+      record {
+        accepted = λ names.
+            number-whole (dialect names) w i (parts-stop (dialect names) w i _ (a .onward names) (none-past (dialect names .part) w i h)) (λ z. omega (arith, a .some)) h;
+      }
+
+  pub number-any : (names : Names) → t ≡ true → (t ≡ true → AnyName w) → 0 ≡ number-of (check-name (dialect names) w)
+  number-any names y a = a y .accepted names
+
+pub not-found : (w : List ℕ) → false ≡ true → AnyName w
+not-found w e = absurd (true≢false (sym e))
+
 -- what the loops over name characters search, and what the calls around them do
 pub ruleset loops = (none-past, none-point, none-class, one-class, none-low, one-low, part-low, parts-stop, parts-go, point-fits, point-less, needs)
 
@@ -159,4 +200,6 @@ pub ruleset asciis = (ascii-past, ascii-stop, ascii-go, run-past, run-ends, run-
 
 pub ruleset firsts = (none-past, none-point, none-class, one-class, none-low, one-low, start-low, name-stop, name-go, point-fits, needs)
 
-pub ruleset whole = (part-past, part-within, part-at, number-none, number-more, number-whole, needs)
+pub ruleset fronts = (not-found, front-start, front-go, front-whole, needs)
+
+pub ruleset whole = (number-any, part-past, part-within, part-at, number-none, number-more, number-whole, needs)

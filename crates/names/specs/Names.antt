@@ -8,8 +8,8 @@ use lib.ListN.{getD, drop}
 use Rattle.spec.specs.Basics.{within}
 use Rattle.spec.specs.Grammar.Names.{Dialect}
 use Rattle.spec.specs.Grammar.AppendixB.{appendix-B, base-chars, ideographs, in-table}
-use Rattle.spec.specs.Reading.Readers.{taken}
-use Rattle.spec.specs.Reading.Wellformed.{parts}
+use Rattle.spec.specs.Reading.Readers.{number-of, taken}
+use Rattle.spec.specs.Reading.Wellformed.{parts, check-name}
 use Rattle.names.specs.declared.classes.Names.{Names}
 use Rattle.names.specs.declared.classes.Names.the-variants.{AppendixB}
 
@@ -43,3 +43,7 @@ ascii-part c = ascii-start c || within 0x2D 0x2E c || within 0x30 0x39 c
 pub record AsciiRun (s : List ℕ) (i r : ℕ) : Type 0 where
   pub among : (names : Names) → r + taken (parts (dialect names) (drop r s)) ≡ i + taken (parts (dialect names) (drop i s))
   pub ends : (names : Names) → getD s r 0 < 128 → r ≡ i + taken (parts (dialect names) (drop i s))
+
+-- w is a Name, whatever the edition
+pub record AnyName (w : List ℕ) : Type 0 where
+  pub accepted : (names : Names) → 0 ≡ number-of (check-name (dialect names) w)

@@ -1,4 +1,5 @@
 pub mod Points
 pub mod Decoding
 pub mod Windows
+pub mod Parts
 pub mod Admitting

@@ -157,15 +157,15 @@ unfolding Upto
 fine-valid w e = upto (length w) 0 0 0 w (omega arith) (omega arith) (omega arith) (omega arith) e
 
 -- the loops: a byte of the front is below 0x80, or in order
-module _ (s : List ℕ) (i : ℕ) (bad : Bool) (inv : bad ≡ false → accepts (utf8 (drop i s)) ≡ accepts (utf8 s)) where
-  pub high-go : i < length s → bad || leb 0x80 (getD s i 0) ≡ false → accepts (utf8 (drop (i + 1) s)) ≡ accepts (utf8 s)
+module _ (s : List ℕ) (i : ℕ) (bad W : Bool) (inv : bad ≡ false → accepts (utf8 (drop i s)) ≡ W) where
+  pub high-go : i < length s → bad || leb 0x80 (getD s i 0) ≡ false → accepts (utf8 (drop (i + 1) s)) ≡ W
   high-go h e =
       let (p, q) = none bad (leb 0x80 (getD s i 0)) e in
       let d = drop-at s i h in
       sym (ap (λ (w : List ℕ). accepts (utf8 w)) d ∙ accepts-turn (getD s i 0 ∷ drop (i + 1) s) (getD s i 0) 1 (decode-1 (getD s i 0) (drop (i + 1) s) (leb-false 0x80 (getD s i 0) q))) ∙ inv p
 
-  pub high-end : length s ≤ i → bad ≡ false → true ≡ accepts (utf8 s)
-  high-end h e = valid-end s i (inv e) h
+pub high-end : (s : List ℕ) (i : ℕ) (bad : Bool) → (bad ≡ false → accepts (utf8 (drop i s)) ≡ accepts (utf8 s)) → length s ≤ i → bad ≡ false → true ≡ accepts (utf8 s)
+high-end s i bad inv h e = valid-end s i (inv e) h
 
 fine-one : (x y z b : ℕ) (w : List ℕ) → off x y z b ≡ false → fine x y z (b ∷ w) ≡ fine y z b w
 unfolding fine

@@ -1,2 +1,3 @@
 pub mod Seen
+pub mod Passed
 pub mod Window

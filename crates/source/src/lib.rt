@@ -1,4 +1,8 @@
 // source.rs: a code point at a place (RFC 3629), whether a text is UTF-8, and what stands in front of every public call.
+mod blocks;
+
+use blocks::cut;
+use blocks::skip_blocks;
 ghost use mathlib.Core.Path.{_≡_};
 ghost use mathlib.Core.Bool.{true, false};
 ghost use Prim.Native.Nat.{_≤_};
@@ -13,6 +17,13 @@ ghost use Rattle.source.specs.Window.{off};
 
 // The longest text that is looked at.
 const LIMIT: usize = 1_048_576;
+// So much is looked at in windows at a time where an accent stands alone. The windows begin with the fourth byte, so both sizes are
+// three bytes more than whole vectors.
+const FEW: usize = 67;
+// And so much where more of them stand.
+const MANY: usize = 4099;
+// After so much ASCII in a row an accent stands alone.
+const CALM: usize = 128;
 
 // A code point and its width in bytes.
 pub enum Point {
@@ -147,8 +158,8 @@ fn unfit(s: &[u8]) -> bool
     bad | ((0xC0 <= s[i - 1]) | (0xE0 <= s[i - 2]) | (0xF0 <= s[i - 3]))
 }
 
-// Whether a text is UTF-8: two quick tests that say yes, and the slow one where they do not.
-fn is_valid(s: &[u8]) -> bool
+// Whether a part is UTF-8: two quick tests that say yes, and the slow one where they do not.
+fn is_valid_part(s: &[u8]) -> bool
     ensures { λ r. ⌜ r ≡ accepts (utf8 (now (s .entry))) ⌝ }
 {
     if high(s) {
@@ -160,6 +171,32 @@ fn is_valid(s: &[u8]) -> bool
         }
     }
     true
+}
+
+// Whether a text is UTF-8: blocks of ASCII are passed over, and what stands between them is looked at in windows, part by part. A part
+// ends where a character seems to end; in a text where it does not, the windows find a fault, and the rest is decoded.
+fn is_valid(s: &[u8]) -> bool
+    ensures { λ r. ⌜ r ≡ accepts (utf8 (now (s .entry))) ⌝ }
+{
+    let mut i: usize = 0;
+    let mut size = FEW;
+    while size < s.len() - i {
+        let k = skip_blocks(s, i);
+        if i < k {
+            if CALM <= k - i {
+                size = FEW;
+            }
+            i = k;
+            continue;
+        }
+        let j = cut(s, i + size);
+        if unfit(&s[i..j]) {
+            return decoded(&s[i..]);
+        }
+        i = j;
+        size = MANY;
+    }
+    is_valid_part(&s[i..])
 }
 
 // 1 before 2, and 0 where the text may be looked at.
