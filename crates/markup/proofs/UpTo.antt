@@ -1,16 +1,21 @@
 -- Everything up to the first place of a word, for any word and any check of what stands before it. Assumes nothing.
 use mathlib.Core.Path.{_≡_, refl, sym, ap, _∙_}
-use mathlib.Core.Bool.{Bool, true, false}
-use mathlib.Core.List.{List}
-use Prim.Native.Nat.{ℕ, _+_, _-_}
+use mathlib.Core.Bool.{Bool, true, false, _||_, true≢false}
+use mathlib.Core.List.{List, [], _∷_, _++_}
+use Prim.Native.Nat.{ℕ, zero, suc, _+_, _-_}
 use Prim.Native.String.{String}
 use native.Mathlib.Nat.{add-assoc}
 use native.Mathlib.Omega.{arith}
 use borrow.Author.Tests.{not-true, not-false}
+use lib.Dec.{eqb}
 use lib.ListN.{length, take, drop}
+use lib.Seq.{drop-drop}
+use Rattle.spec.specs.Basics.{pick}
 use Rattle.spec.specs.Grammar.Languages.{ascii}
 use Rattle.spec.specs.Reading.Refusals.{Refusal, number}
-use Rattle.spec.specs.Reading.Readers.{Result, ok, err, number-of, on-ok, nothing, refuse, starts, choose, word-of, before, up-to}
+use Rattle.spec.specs.Reading.Readers.{Result, ok, err, number-of, on-ok, nothing, refuse, starts, choose, word-of, contains, before, up-to}
+use Rattle.spec.specs.Reading.Dtd.{check-comment}
+use Rattle.spec.proofs.Base.Tests.{T→true, no→false, and-left, and-right}
 use Rattle.spec.proofs.Base.Results.{number-pos}
 use Rattle.error.specs.Read.{placed, read}
 use Rattle.error.specs.declared.Answer.the-variants.{At, No}
@@ -50,6 +55,53 @@ module _ (k : String) (n : Refusal) (check : List ℕ → Result) (s : List ℕ)
         go (ok i) f = absurd (e (c ∙ ap number-of f))
         go (err y) f = ap No (c ∙ ap number-of f) ∙ up-to-here (err y) f
 
+-- a word that goes on stands only where its first part does, and not in what stands before the first place of that part
+starts-part : (p x w : List ℕ) → starts (p ++ x) w ≡ true → starts p w ≡ true
+unfolding starts
+starts-part [] x w e = refl
+starts-part (c ∷ p) x [] e = e
+starts-part (c ∷ p) x (b ∷ w) e = rw (and-left (eqb b c) (starts (p ++ x) w) e, starts-part p x w (and-right (eqb b c) (starts (p ++ x) w) e))
+
+starts-within : (p : List ℕ) (n : ℕ) (w : List ℕ) → starts p (take n w) ≡ true → starts p w ≡ true
+unfolding starts
+starts-within [] n w e = refl
+starts-within (c ∷ p) zero w e = absurd (true≢false (sym e))
+starts-within (c ∷ p) (suc n) [] e = e
+starts-within (c ∷ p) (suc n) (b ∷ w) e = rw (and-left (eqb b c) (starts p (take n w)) e, starts-within p n w (and-right (eqb b c) (starts p (take n w)) e))
+
+none-before : (p w : List ℕ) → contains p (take (before p w) w) ≡ false
+unfolding contains before
+none-before p [] = refl
+none-before p (b ∷ w) = go (starts p (b ∷ w)) refl (none-before p w)
+  where
+    go : (t : Bool) → starts p (b ∷ w) ≡ t → contains p (take (before p w) w) ≡ false → contains p (take (pick t 0 (suc (before p w))) (b ∷ w)) ≡ false
+    go true e ih = refl
+    go false e ih = rw (no→false (starts p (b ∷ take (before p w) w)) (λ z. true≢false (sym (starts-within p (suc (before p w)) (b ∷ w) (T→true _ z)) ∙ e)), ih)
+
+longer : (p x w : List ℕ) → contains p w ≡ true → starts (p ++ x) (drop (before p w) w) ≡ true → (contains (p ++ x) w ≡ true) × (before (p ++ x) w ≡ before p w)
+unfolding contains before
+longer p x [] c e = absurd (true≢false (sym c))
+longer p x (b ∷ w) c e = go (starts p (b ∷ w)) refl c e (longer p x w)
+  where
+    go : (t : Bool) → starts p (b ∷ w) ≡ t → t || contains p w ≡ true → starts (p ++ x) (drop (pick t 0 (suc (before p w))) (b ∷ w)) ≡ true
+        → (contains p w ≡ true → starts (p ++ x) (drop (before p w) w) ≡ true → (contains (p ++ x) w ≡ true) × (before (p ++ x) w ≡ before p w))
+        → (starts (p ++ x) (b ∷ w) || contains (p ++ x) w ≡ true) × (pick (starts (p ++ x) (b ∷ w)) 0 (suc (before (p ++ x) w)) ≡ pick t 0 (suc (before p w)))
+    go true f c e ih = rw e (refl, refl)
+    go false f c e ih =
+        let (g, h) = ih c e in
+        rw (no→false (starts (p ++ x) (b ∷ w)) (λ z. true≢false (sym (starts-part p x (b ∷ w) (T→true _ z)) ∙ f))) (g, ap suc h)
+
+-- a comment whose first "--", at j, is that of a "-->"
+pub comment-once : (s : List ℕ) (at j : ℕ) (r : Found) (b : Bool) (n : Refusal) → r ≡ first-place (ascii "--") s at → r ≡ Here j → b ≡ starts (ascii "-->") (drop j s) → b ≡ true → At (j + 3) ≡ read (up-to "-->" n check-comment) s at
+unfolding read up-to check-comment choose nothing
+comment-once s at j r b n a d e f =
+    let (c, k) = was-here (ascii "--") s at r a j d in
+    let m : ℕ = before (ascii "--") (drop at s) in
+    let g : starts (ascii "-->") (drop m (drop at s)) ≡ true = ap (starts (ascii "-->")) (drop-drop m at s ∙ ap (λ (i : ℕ). drop i s) (sym k)) ∙ sym e ∙ f in
+    let (h, i) = longer (ascii "--") (ascii ">") (drop at s) c g in
+    let z : j + 3 ≡ at + (m + 3) = omega arith in
+    ap At z ∙ (rw (h, i, none-before (ascii "--") (drop at s)))
+
 -- the bytes p stand at a place, as b says, and the code knows how many they are
 pub word-end : (p s : List ℕ) (at l : ℕ) (b : Bool) (n : Refusal) → b ≡ starts p (drop at s) → b ≡ true → l ≡ length p → At (at + l) ≡ read (word-of p n) s at
 word-end p s at l b n e f d = rw d (word-yes p s at b e n f)
@@ -65,4 +117,4 @@ module _ (t : List ℕ → Bool) (n : Refusal) (w : List ℕ) (b : Bool) (e : b 
   test-taken f = rw (sym e ∙ f)
 
 -- what code searches that reads up to a word
-pub ruleset upwards = (up-to-nowhere, up-to-taken, up-to-refused, test-refused, test-taken, word-end, word-no, not-true, not-false, places-found, by-words)
+pub ruleset upwards = (up-to-nowhere, up-to-taken, up-to-refused, comment-once, test-refused, test-taken, word-end, word-no, not-true, not-false, places-found, by-words)

@@ -1,6 +1,6 @@
 // A declaration's body, as text: where it ends, and whether it holds a parameter-entity reference.
+use crate::bytes::find_byte;
 use crate::places::Found;
-use crate::places::find;
 use error::Answer;
 use names::Names;
 use names::is_name_start_char;
@@ -16,7 +16,7 @@ ghost use Rattle.error.specs.Read.{read};
 ghost use Rattle.names.specs.Names.{dialect};
 
 // take_decl_body: the place of the first '>' outside quotes. Outside quotes the loop tests each byte; a quoted part ends at the same
-// quote mark, which `find` looks for.
+// quote mark, which `find_byte` looks for.
 pub fn take_decl_body(s: &[u8], at: usize) -> Answer
     ensures { λ r. ⌜ r ≡ read (take-decl-body 0) (now (s .entry)) at ⌝ }
 {
@@ -27,8 +27,7 @@ pub fn take_decl_body(s: &[u8], at: usize) -> Answer
             return Answer::At(i);
         }
         if (b == b'"') | (b == b'\'') {
-            let quote = [b];
-            let r = find(s, i + 1, &quote);
+            let r = find_byte(s, i + 1, b);
             let Found::Here(j) = r else {
                 return Answer::No(error::UNTERMINATED);
             };

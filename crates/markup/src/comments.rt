@@ -5,7 +5,8 @@ use crate::places::has;
 use error::Answer;
 use wellformed::at_keyword;
 ghost use mathlib.Core.Path.{_≡_};
-ghost use Rattle.spec.specs.Reading.Readers.{number-of};
+ghost use Rattle.spec.specs.Reading.Refusals.{unterminated};
+ghost use Rattle.spec.specs.Reading.Readers.{number-of, up-to};
 ghost use Rattle.spec.specs.Reading.Dtd.{check-comment, parse-comment};
 ghost use Rattle.error.specs.Read.{read};
 
@@ -19,14 +20,10 @@ fn check_comment(t: &[u8]) -> u8
     error::ACCEPTED
 }
 
-// parse_comment, [15] Comment: from "<!--" to the first "-->".
-pub fn parse_comment(s: &[u8], at: usize) -> Answer
-    ensures { λ r. ⌜ r ≡ read parse-comment (now (s .entry)) at ⌝ }
+// From a comment's text on, to the first "-->".
+fn end_comment(s: &[u8], from: usize) -> Answer
+    ensures { λ r. ⌜ r ≡ read (up-to "-->" unterminated check-comment) (now (s .entry)) from ⌝ }
 {
-    if !at_keyword(s, at, b"<!--") {
-        return Answer::No(error::UNEXPECTED);
-    }
-    let from = at + 4;
     let r = find(s, from, b"-->");
     let Found::Here(j) = r else {
         return Answer::No(error::UNTERMINATED);
@@ -36,4 +33,23 @@ pub fn parse_comment(s: &[u8], at: usize) -> Answer
         return Answer::No(n);
     }
     Answer::At(j + 3)
+}
+
+// parse_comment, [15] Comment: from "<!--" to the first "-->". Where the first "--" is that of a "-->", none stands before it, and the
+// one search is enough; another comment is refused, or ends in "--->".
+pub fn parse_comment(s: &[u8], at: usize) -> Answer
+    ensures { λ r. ⌜ r ≡ read parse-comment (now (s .entry)) at ⌝ }
+{
+    if !at_keyword(s, at, b"<!--") {
+        return Answer::No(error::UNEXPECTED);
+    }
+    let from = at + 4;
+    let r = find(s, from, b"--");
+    let Found::Here(j) = r else {
+        return end_comment(s, from);
+    };
+    if at_keyword(s, j, b"-->") {
+        return Answer::At(j + 3);
+    }
+    end_comment(s, from)
 }

@@ -1,4 +1,5 @@
 // The first place of a fixed word.
+use crate::bytes::find_byte;
 use source::byte_at;
 use wellformed::at_keyword;
 ghost use mathlib.Core.Path.{_≡_};
@@ -11,21 +12,21 @@ pub enum Found {
     Nowhere,
 }
 
-// The first place of kw from `at` on. Few bytes are the word's first byte, and only there is the word compared.
+// The first place of kw from `at` on: the word is compared only where its first byte stands.
 pub fn find(s: &[u8], at: usize, kw: &[u8]) -> Found
     ensures { λ r. ⌜ r ≡ first-place (now (kw .entry)) (now (s .entry)) at ⌝ }
 {
     let first = byte_at(kw, 0);
-    let empty = kw.len() == 0;
     let mut i = at;
     while i < s.len() {
-        let here = i;
-        i += 1;
-        if empty | (s[here] == first) {
-            if at_keyword(s, here, kw) {
-                return Found::Here(here);
-            }
+        if at_keyword(s, i, kw) {
+            return Found::Here(i);
         }
+        let r = find_byte(s, i + 1, first);
+        let Found::Here(j) = r else {
+            return Found::Nowhere;
+        };
+        i = j;
     }
     Found::Nowhere
 }

@@ -1,3 +1,3 @@
-pub mod Turning
+pub mod Stops
 pub mod Passes
 pub mod Answering

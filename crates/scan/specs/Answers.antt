@@ -1,9 +1,9 @@
 -- The code's answers and the rule's, and what the scan promises. Assumes nothing: these are definitions.
 use mathlib.Core.Path.{_≡_}
+use mathlib.Core.Bool.{Bool, _||_}
 use mathlib.Core.List.{List}
 use Prim.Native.Nat.{ℕ, zero, suc}
 use lib.Dec.{eqb}
-use Rattle.spec.specs.Basics.{pick}
 use Rattle.spec.specs.Grammar.AppendixB.{appendix-B}
 use Rattle.spec.specs.Grammar.Languages.{one-of}
 use Rattle.spec.specs.Promises.{Cuts}
@@ -25,10 +25,9 @@ scanned Rule.not-opened = NotOpened
 scanned Rule.not-closed = NotClosed
 scanned (Rule.closed k) = Closed k
 
--- the open quote, or 0, after one more byte
-abbrev pub turn : ℕ → ℕ → ℕ
-turn zero b = pick (one-of "\"'" b) b 0
-turn (suc q) b = pick (eqb b (suc q)) 0 (suc q)
+-- what a pass looks at outside quotes: a quote mark, its sign, and another byte
+unfoldable pub stop : ℕ → ℕ → ℕ → Bool
+stop sign other b = one-of "\"'" b || eqb b sign || eqb b other
 
 -- the written rule on any bytes
 unfoldable pub admitted-answer : List ℕ → Scanned

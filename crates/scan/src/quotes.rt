@@ -1,9 +1,10 @@
-// The state that both passes of the scan carry: the open quote, or 0.
+// Outside quotes: the bytes that a pass looks at.
 ghost use mathlib.Core.Path.{_≡_};
-ghost use mathlib.Core.Bool.{_&&_};
-ghost use lib.Dec.{eqb};
+ghost use Prim.Native.Nat.{_+_};
+ghost use lib.ListN.{drop};
 ghost use Rattle.spec.specs.Grammar.Languages.{one-of};
-ghost use Rattle.scan.specs.Answers.{turn};
+ghost use Rattle.wellformed.specs.Bytes.{away};
+ghost use Rattle.scan.specs.Answers.{stop};
 
 fn is_quote(b: u8) -> bool
     ensures { λ r. ⌜ r ≡ one-of "\"'" b ⌝ }
@@ -11,25 +12,23 @@ fn is_quote(b: u8) -> bool
     (b == b'"') | (b == b'\'')
 }
 
-// The open quote, or 0, after one more byte: only the quote that opened a literal closes it.
-pub fn turned(quote: u8, b: u8) -> u8
-    ensures { λ r. ⌜ r ≡ turn quote b ⌝ }
+// A quote mark, the sign that the pass looks for, or the other byte that it has to look at.
+fn is_stop(b: u8, sign: u8, other: u8) -> bool
+    ensures { λ r. ⌜ r ≡ stop sign other b ⌝ }
 {
-    if quote == 0 {
-        if is_quote(b) {
-            return b;
-        }
-        return 0;
-    }
-    if b == quote {
-        return 0;
-    }
-    quote
+    is_quote(b) | (b == sign) | (b == other)
 }
 
-// Outside quotes, and the byte is the sign.
-pub fn bare_sign(quote: u8, b: u8, sign: u8) -> bool
-    ensures { λ r. ⌜ r ≡ (eqb quote 0 && eqb b sign) ⌝ }
+// The place of the first such byte from `at` on, or the text's end. Most bytes of a text are passed here, so the loop does nothing else.
+pub fn plain_end(s: &[u8], at: usize, sign: u8, other: u8) -> usize
+    ensures { λ r. ⌜ r ≡ at + away (stop sign other) (drop at (now (s .entry))) ⌝ }
 {
-    (quote == 0) & (b == sign)
+    let mut i = at;
+    while i < s.len() {
+        if is_stop(s[i], sign, other) {
+            return i;
+        }
+        i += 1;
+    }
+    i
 }

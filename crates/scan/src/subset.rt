@@ -1,16 +1,12 @@
-// Where the internal subset opens and where it ends.
-use crate::quotes::bare_sign;
-use crate::quotes::turned;
+// Where the internal subset opens and where it ends. Each pass goes from one byte that it looks at to the next, and over a literal to
+// the quote mark that closes it; a literal that is not closed leaves nothing to find.
+use crate::quotes::plain_end;
 use markup::Found;
 use markup::find;
-use source::byte_at;
+use markup::find_byte;
 use wellformed::at_keyword;
 ghost use mathlib.Core.Path.{_≡_};
-ghost use mathlib.Core.Bool.{_&&_};
-ghost use lib.Dec.{eqb};
 ghost use lib.ListN.{drop};
-ghost use Rattle.spec.specs.Grammar.Languages.{ascii};
-ghost use Rattle.spec.specs.Reading.Readers.{starts};
 ghost use Rattle.spec.specs.Reading.Scan.{later, subset-open, subset-end};
 ghost use Rattle.scan.specs.Answers.{placed};
 
@@ -19,26 +15,22 @@ pub fn subset_open(s: &[u8]) -> Found
     ensures { λ r. ⌜ r ≡ placed (subset-open 0 (now (s .entry))) ⌝ }
 {
     let mut i: usize = 0;
-    let mut quote: u8 = 0;
     while i < s.len() {
-        let b = s[i];
-        if bare_sign(quote, b, b'[') {
-            return Found::Here(i);
+        let here = plain_end(s, i, b'[', b'[');
+        if s.len() <= here {
+            return Found::Nowhere;
         }
-        quote = turned(quote, b);
-        i += 1;
+        let b = s[here];
+        if b == b'[' {
+            return Found::Here(here);
+        }
+        let q = find_byte(s, here + 1, b);
+        let Found::Here(close) = q else {
+            return Found::Nowhere;
+        };
+        i = close + 1;
     }
     Found::Nowhere
-}
-
-// Outside quotes, and a comment begins; "<!--" in a literal begins none. Few bytes are '<', and only there is the word compared.
-fn comment_at(s: &[u8], at: usize, quote: u8) -> bool
-    ensures { λ r. ⌜ r ≡ (eqb quote 0 && starts (ascii "<!--") (drop at (now (s .entry)))) ⌝ }
-{
-    if bare_sign(quote, byte_at(s, at), b'<') {
-        return at_keyword(s, at, b"<!--");
-    }
-    false
 }
 
 // The first ']' from `at` on, outside quotes and comments, as a place from the text's first byte. A comment is passed by one search
@@ -47,22 +39,32 @@ pub fn internal_subset_end(s: &[u8], at: usize) -> Found
     ensures { λ r. ⌜ r ≡ placed (later at (subset-end 0 0 (drop at (now (s .entry))))) ⌝ }
 {
     let mut i = at;
-    let mut quote: u8 = 0;
     while i < s.len() {
-        let b = s[i];
-        if bare_sign(quote, b, b']') {
-            return Found::Here(i);
+        let here = plain_end(s, i, b']', b'<');
+        if s.len() <= here {
+            return Found::Nowhere;
         }
-        if comment_at(s, i, quote) {
-            let e = find(s, i + 4, b"-->");
-            let Found::Here(j) = e else {
-                return Found::Nowhere;
-            };
-            i = j + 3;
-        } else {
-            quote = turned(quote, b);
-            i += 1;
+        let b = s[here];
+        if b == b']' {
+            return Found::Here(here);
         }
+        if b == b'<' {
+            if at_keyword(s, here, b"<!--") {
+                let e = find(s, here + 4, b"-->");
+                let Found::Here(j) = e else {
+                    return Found::Nowhere;
+                };
+                i = j + 3;
+                continue;
+            }
+            i = here + 1;
+            continue;
+        }
+        let q = find_byte(s, here + 1, b);
+        let Found::Here(last) = q else {
+            return Found::Nowhere;
+        };
+        i = last + 1;
     }
     Found::Nowhere
 }

@@ -23,9 +23,8 @@ take-decl-body-spec =
     (λ c. search bodies-read)  -- loop-holds
     (λ c. search bodies-read)  -- shared-slice-read-b
     (λ c. search bodies-read)  -- returns
-    (λ c. search bodies-read)  -- add-find
-    (λ c. search bodies-read)  -- slice-aggregate-find
-    (λ c κs. search bodies-read)  -- find-requires
+    (λ c. search bodies-read)  -- add-find-byte
+    (λ c κs. search bodies-read)  -- find-byte-requires
     (λ c. search bodies-read)  -- enum-known-r
     (λ c. search bodies-read)  -- enum-told
     (λ c. search bodies-read)  -- returns-2

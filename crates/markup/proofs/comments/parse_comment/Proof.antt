@@ -17,11 +17,11 @@ parse-comment-spec =
     (λ c κs. search upwards)  -- find-requires
     (λ c. search upwards)  -- enum-known-r
     (λ c. search upwards)  -- enum-told
+    (λ c κs. search upwards)  -- end-comment-requires
     (λ c. search upwards)  -- returns-2
-    (λ c. search upwards)  -- sub-check-comment
-    (λ c. search upwards)  -- part-check-comment-start
-    (λ c. search upwards)  -- part-check-comment-end
-    (λ c κs. search upwards)  -- check-comment-requires
-    (λ c. search upwards)  -- returns-3
+    (λ c. search upwards)  -- slice-aggregate-at-keyword-2
+    (λ c κs. search upwards)  -- at-keyword-2-requires
     (λ c. search upwards)  -- add-t16
+    (λ c. search upwards)  -- returns-3
+    (λ c. search upwards)  -- end-comment-requires-2
     (λ c. search upwards))  -- returns-4

@@ -8,10 +8,10 @@ use Rattle.markup.proofs.places.find.Statement.{statement}
 use Rattle.markup.proofs.places.find.Tie as tie
 
 abbrev Inv-loop : tie.InvT-loop
-Inv-loop s at kw first empty i₀ i = first-place kw s i ≡ first-place kw s at
+Inv-loop s at kw first i₀ i = first-place kw s i ≡ first-place kw s at
 
 abbrev μ-loop : tie.MeasureT-loop
-μ-loop s at kw first empty i₀ i = length s - i
+μ-loop s at kw first i₀ i = length s - i
 
 pub find-spec : {M : Type 1} → statement M
 find-spec =
@@ -21,12 +21,13 @@ find-spec =
     μ-loop
     (λ c κs. search finding)  -- byte-at-requires
     (λ c. search finding)  -- loop-holds
-    (λ c. search finding)  -- add-i
-    (λ c. search finding)  -- shared-slice-read-if1
     (λ c κs. search finding)  -- at-keyword-requires
     (λ c. search finding)  -- returns
+    (λ c. search finding)  -- add-find-byte
+    (λ c κs. search finding)  -- find-byte-requires
+    (λ c. search finding)  -- enum-known-r
+    (λ c. search finding)  -- enum-told
+    (λ c. search finding)  -- returns-2
     (λ c. search finding)  -- loop-less
     (λ c. search finding)  -- loop-again
-    (λ c. search finding)  -- loop-less-2
-    (λ c. search finding)  -- loop-again-2
-    (λ c. search finding))  -- returns-2
+    (λ c. search finding))  -- returns-3

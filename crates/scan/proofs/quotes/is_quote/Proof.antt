@@ -1,5 +1,5 @@
 -- `scan::quotes::is_quote` meets its contract. Assumes nothing.
-use Rattle.scan.proofs.Turning.{turning}
+use Rattle.scan.proofs.Stops.{stops}
 use Rattle.scan.proofs.quotes.is_quote.Statement.{statement}
 use Rattle.scan.proofs.quotes.is_quote.Tie as tie
 
@@ -7,4 +7,4 @@ pub is-quote-spec : {M : Type 1} → statement M
 is-quote-spec =
     tie.close
     (tie.spec
-    (λ c. search turning))  -- returns
+    (λ c. search stops))  -- returns
