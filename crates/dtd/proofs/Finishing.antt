@@ -1,44 +1,22 @@
 -- A declaration from its keyword to its '>', for any reader of its body. Assumes nothing.
-use mathlib.Core.Path.{_≡_, refl, sym, ap, _∙_}
+use mathlib.Core.Path.{_≡_, sym, ap, _∙_}
 use mathlib.Core.Bool.{Bool, true, false, _||_}
-use mathlib.Core.List.{List, [], _∷_}
-use Prim.Native.Nat.{ℕ, zero, suc, _+_, _-_, _^_, _<_, _≤_}
+use mathlib.Core.List.{List}
+use Prim.Native.Nat.{ℕ, _+_, _-_, _^_, _<_, _≤_}
 use native.Mathlib.Omega.{arith}
 use borrow.Author.Needs.{needs}
 use mir.Syntax.{w64}
 use mir.Val.{Fits}
-use lib.Dec.{eqb}
 use lib.ListN.{length, take, drop, length-drop}
 use Rattle.spec.specs.Basics.{pick}
-use Rattle.spec.specs.Grammar.Languages.{one-of}
 use Rattle.spec.specs.Grammar.Names.{Dialect}
-use Rattle.spec.specs.Reading.Refusals.{number, unterminated}
-use Rattle.spec.specs.Reading.Readers.{Result, ok, err, Reader, on-ok, past, nothing}
+use Rattle.spec.specs.Reading.Readers.{ok, Reader, on-ok, nothing}
 use Rattle.spec.specs.Reading.Dtd.{take-decl-body, has-pe-reference, finish-decl}
-use Rattle.spec.proofs.Base.Results.{err-ok, ok-inj, past-ok}
+use Rattle.spec.proofs.Stops.Inside.{body-within}
 use Rattle.error.specs.Read.{placed, read}
 use Rattle.error.specs.declared.Answer.{Answer}
 use Rattle.error.specs.declared.Answer.the-variants.{At, No}
 use Rattle.error.proofs.Laws.{was-ok, was-err}
-
--- the '>' that ends a body stands in the text
-body-within : (q k : ℕ) (w : List ℕ) → take-decl-body q w ≡ ok k → k < length w
-unfolding take-decl-body
-body-within q k [] e = absurd (err-ok unterminated k e)
-body-within zero k (b ∷ w) e = by-end (one-of ">" b) e (λ p j. body-within p j w)
-  where
-    by-end : (t : Bool) → pick t (ok 0) (past 1 (take-decl-body (pick (one-of "\"'" b) b 0) w)) ≡ ok k → ((p j : ℕ) → take-decl-body p w ≡ ok j → j < length w) → k < suc (length w)
-    by-end true f ih = let z : 0 ≡ k = ok-inj 0 k f in omega arith
-    by-end false f ih =
-        let (m, g) = past-ok 1 k (take-decl-body (pick (one-of "\"'" b) b 0) w) f in
-        let z : 1 + m ≡ k = ok-inj (1 + m) k (sym (ap (past 1) g) ∙ f) in
-        let l = ih (pick (one-of "\"'" b) b 0) m g in
-        omega arith
-body-within (suc q) k (b ∷ w) e =
-    let (m, g) = past-ok 1 k (take-decl-body (pick (eqb b (suc q)) 0 (suc q)) w) e in
-    let z : 1 + m ≡ k = ok-inj (1 + m) k (sym (ap (past 1) g) ∙ e) in
-    let l = body-within (pick (eqb b (suc q)) 0 (suc q)) m w g in
-    omega arith
 
 -- r is what take_decl_body gave: the body's end
 module _ (s : List ℕ) (at : ℕ) (r : Answer) (a : r ≡ read (take-decl-body 0) s at) (end : ℕ) (e : r ≡ At end) where

@@ -27,7 +27,7 @@ use Rattle.error.specs.declared.Answer.the-variants.{At, No}
 use Rattle.error.proofs.Laws.{seq-no, seq-at, choose-yes, choose-no, read-on, walk-less}
 
 -- a sign stands at a place as the byte there says
-sign-at : (a : ℕ) (s : List ℕ) (i b : ℕ) → b ≡ getD s i 0 → (a ≡ 0 → ⊥) → eqb b a ≡ starts (a ∷ []) (drop i s)
+pub sign-at : (a : ℕ) (s : List ℕ) (i b : ℕ) → b ≡ getD s i 0 → (a ≡ 0 → ⊥) → eqb b a ≡ starts (a ∷ []) (drop i s)
 unfolding starts
 sign-at a s i b e n = go (drop i s) (e ∙ sym (front-at s i))
   where

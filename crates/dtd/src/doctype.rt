@@ -22,7 +22,7 @@ ghost use Rattle.names.specs.Names.{dialect};
 ghost use Rattle.dtd.specs.Kinds.{id-part, subset-part};
 
 // (S ExternalID)? of [28], the white space before it passed, and the white space after it
-fn parse_id_part(s: &[u8], at: usize) -> Answer
+pub fn parse_id_part(s: &[u8], at: usize) -> Answer
     ensures { λ r. ⌜ r ≡ read id-part (now (s .entry)) at ⌝ }
 {
     if at_keyword(s, at, b"SYSTEM") | at_keyword(s, at, b"PUBLIC") {

@@ -27,16 +27,16 @@ use Rattle.scan.specs.declared.calls.Scanned.the-variants.{NotOpened, No
 use Rattle.scan.specs.Answers.{placed, scanned, admitted-answer, answer-by, scan-answer, Scans}
 
 -- the rule's place from the code's
-was-at : (p : Place) (r : Found) (j : ℕ) → r ≡ placed p → r ≡ Here j → p ≡ at j
+pub was-at : (p : Place) (r : Found) (j : ℕ) → r ≡ placed p → r ≡ Here j → p ≡ at j
 was-at (at i) r j a b = let e : i ≡ j = cc in ap at e
 was-at nowhere r j a b = absurd (let z : _≡_ {A = ℕ} 0 1 = cc in omega arith)
 
-was-nowhere : (p : Place) (r : Found) → r ≡ placed p → r ≡ Nowhere → p ≡ nowhere
+pub was-nowhere : (p : Place) (r : Found) → r ≡ placed p → r ≡ Nowhere → p ≡ nowhere
 was-nowhere (at i) r a b = absurd (let z : _≡_ {A = ℕ} 0 1 = cc in omega arith)
 was-nowhere nowhere r a b = refl
 
 -- the sign that opens the subset is a byte of the text
-later-within : (n : ℕ) (p : Place) (i : ℕ) → later 1 p ≡ at i → ((j : ℕ) → p ≡ at j → j < n) → i < suc n
+pub later-within : (n : ℕ) (p : Place) (i : ℕ) → later 1 p ≡ at i → ((j : ℕ) → p ≡ at j → j < n) → i < suc n
 later-within n nowhere i e h = absurd (nowhere-at i e)
 later-within n (at j) i e h = omega (arith, at-inj (1 + j) i e, h j refl)
 

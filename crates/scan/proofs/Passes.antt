@@ -38,7 +38,7 @@ pub record Pass (R : ℕ → List ℕ → Place) (sign other : ℕ) : Type 0 whe
   pub inside : (q b : ℕ) (w : List ℕ) → R (suc q) (b ∷ w) ≡ later 1 (R (pick (eqb b (suc q)) 0 (suc q)) w)
 
 -- a quote mark is one of two bytes
-marks : (b : ℕ) → one-of "\"'" b ≡ true → (b ≡ 34) ⊎ (b ≡ 39)
+pub marks : (b : ℕ) → one-of "\"'" b ≡ true → (b ≡ 34) ⊎ (b ≡ 39)
 marks b e = by (or-cases (eqb b 34) (eqb b 39 || false) e)
   where
     last : (t : Bool) → t || false ≡ true → t ≡ true
@@ -155,7 +155,7 @@ module _ (R : ℕ → List ℕ → Place) (sign other : ℕ) (s : List ℕ) (i :
 
   -- r is the next place that it looks at
   module _ (r : ℕ) (a : r ≡ i + away (stop sign other) (drop i s)) where
-    pass-to : from R s r ≡ W
+    pub pass-to : from R s r ≡ W
     pass-to = ap (from R s) a ∙ onward R s i (away (stop sign other) (drop i s)) (passed (R 0) (stop sign other) (P .plain) (drop i s)) ∙ inv
 
     module _ (h : r < length s) where

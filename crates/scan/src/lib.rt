@@ -6,3 +6,5 @@ mod subset;
 pub use calls::Scanned;
 pub use calls::scan;
 pub use calls::scan_admitted;
+pub use quotes::plain_end;
+pub use subset::internal_subset_end;

@@ -3,27 +3,30 @@
 use mathlib.Core.Path.{_≡_, refl}
 use mathlib.Core.Logic.{_↔_, _⊎_}
 use mathlib.Core.Bool.{false, _&&_}
-use mathlib.Core.List.{List}
-use Prim.Native.Nat.{ℕ, _≤_}
+use mathlib.Core.List.{List, _∷_, _++_}
+use Prim.Native.Nat.{ℕ, _+_, _≤_}
 use lib.Dec.{T, eqb}
-use lib.ListN.{take}
+use lib.ListN.{length, take}
 use Rattle.spec.specs.Grammar.AppendixB.{appendix-B}
 use Rattle.spec.specs.Grammar.Characters.{Chars}
 use Rattle.spec.specs.Grammar.Division.{Front, Division}
-use Rattle.spec.specs.Grammar.Doctype.{doctypedecl}
+use Rattle.spec.specs.Grammar.Doctype.{doctypedecl, Misc}
 use Rattle.spec.specs.Grammar.Names.{Dialect, Name, NCName, with-groups}
 use Rattle.spec.specs.Grammar.References.{Referred, CharData, AttText}
 use Rattle.spec.specs.Grammar.XmlDecl.{XMLDecl}
 use Rattle.spec.specs.Premise.{bare, premise, promised}
-use Rattle.spec.specs.Promises.{Checks, Tells}
+use Rattle.spec.specs.Promises.{Checks, Tells, Handed}
 use Rattle.spec.specs.Reading.Checks.{check-declaration, is-ncname}
 use Rattle.spec.specs.Reading.Dtd.{check-doctype}
-use Rattle.spec.specs.Reading.Readers.{Reader, nothing}
-use Rattle.spec.specs.Reading.Scan.{scan, not-opened}
+use Rattle.spec.specs.Reading.Prolog.{doctype, doctype-end, next-item}
+use Rattle.spec.specs.Reading.Readers.{ok, err, Reader, nothing}
+use Rattle.spec.specs.Reading.Refusals.{Refusal}
+use Rattle.spec.specs.Reading.Scan.{scan, not-opened, at}
 use Rattle.spec.specs.Reading.Source.{checked}
+use Rattle.spec.specs.Reading.Stops.{passed, stopped, doctype-progress, stop-place}
 use Rattle.spec.specs.Reading.Wellformed.{check-chars, check-char-refs, check-text, check-attr-value, check-name}
 use Rattle.spec.specs.Rows.{rows}
-use Rattle.spec.specs.Grammar.Languages.{Lang}
+use Rattle.spec.specs.Grammar.Languages.{Lang, ascii, Star}
 use Rattle.spec.proofs.Agreement.Accepts.{promise, tells}
 use Rattle.spec.proofs.Characters.AppendixB.{appendix-B-ascii}
 use Rattle.spec.proofs.Checks.NCNames.{ncname-decides}
@@ -32,8 +35,11 @@ use Rattle.spec.proofs.Division.Places.{divided, apart, one-division, c
 use Rattle.spec.proofs.Division.Scans.{cuts-without}
 use Rattle.spec.proofs.Dtd.Depth.{deeper-same-B}
 use Rattle.spec.proofs.Dtd.Texts.{doctype-agrees}
+use Rattle.spec.proofs.Prolog.Handed.{doctype-handed}
+use Rattle.spec.proofs.Prolog.Heads.{doctype-ends}
 use Rattle.spec.proofs.Rows
 use Rattle.spec.proofs.Rows.{All}
+use Rattle.spec.proofs.Stops.Tracks.{stops-where-refused, passes-where-accepted, end-where-accepted}
 use Rattle.spec.proofs.Wellformed.Checks.{chars-agree, char-refs-agree, text-agree, attr-value-agree, name-agrees}
 use Rattle.spec.proofs.Wellformed.Names.{AsciiNames}
 
@@ -96,3 +102,20 @@ cut-anywhere = cuts appendix-B appendix-B-ascii
 
 pub cut-without : (w : List ℕ) → Front appendix-B w → (cut : ℕ) → scan (take cut w) ≡ not-opened
 cut-without = cuts-without appendix-B appendix-B-ascii
+
+-- Where a DOCTYPE went wrong: the progress stops just where the order of reading refuses, at a place of the text. What is accepted is
+-- passed, up to the text's end.
+pub refused-stops : (w : List ℕ) (r : Refusal) → check-doctype appendix-B w ≡ err r → (k : ℕ) × ((doctype-progress appendix-B w ≡ stopped k) × (k ≤ length w))
+refused-stops = stops-where-refused appendix-B
+
+pub accepted-passes : (w : List ℕ) (k : ℕ) → check-doctype appendix-B w ≡ ok k → (doctype-progress appendix-B w ≡ passed k) × (stop-place appendix-B w ≡ length w)
+accepted-passes w k e = (passes-where-accepted appendix-B w k e, end-where-accepted appendix-B w k e)
+
+-- The command's part: of a text that demand 3 speaks of, the prolog's rule finds the end where it stands, and hands over that very text,
+-- whatever white space, comments and instructions stand before the DOCTYPE.
+pub doctype-found : (t r : List ℕ) → Handed appendix-B t → doctype-end (t ++ 62 ∷ r) ≡ at (length t)
+doctype-found = doctype-ends appendix-B appendix-B-ascii
+
+pub doctype-handed-over : (m t r : List ℕ) → Star (Misc appendix-B) m → Handed appendix-B t
+    → next-item (m ++ (ascii "<!DOCTYPE" ++ (t ++ (62 ∷ r)))) ≡ doctype (length m + 9) (length m + 9 + length t)
+doctype-handed-over = doctype-handed appendix-B appendix-B-ascii

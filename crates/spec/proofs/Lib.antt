@@ -6,4 +6,6 @@ pub mod Dtd
 pub mod Checks
 pub mod Rows
 pub mod Division
+pub mod Prolog
+pub mod Stops
 pub mod Demands

@@ -52,3 +52,8 @@ module _ (D : Dialect) where
     pub divided :
         (t : List ℕ) (cut : ℕ) → w ≡ take cut t → Accepted Text w
         → (d : Division D t) → T (premise D bare t false (d .entries)) → Says (promised (d .opening) (d .closing) cut)
+
+  -- a DOCTYPE's text, from '<!DOCTYPE' to its '>', as demand 3 asks for it: it has no subset, or a division whose entries meet the
+  -- premise. (By `parted` it is accepted, if it is not too long.)
+  abbrev pub Handed : Lang
+  Handed t = Front D t ⊎ ((d : Division D t) × T (premise D bare t false (d .entries)))

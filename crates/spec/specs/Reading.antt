@@ -8,3 +8,5 @@ pub mod Dtd
 pub mod Checks
 pub mod Scan
 pub mod Gate
+pub mod Prolog
+pub mod Stops

@@ -44,7 +44,7 @@ pub fn next_byte(s: &[u8], i: usize) -> Answer
 }
 
 // Whether an illegal character begins here: 0xEF begins U+FFFE and U+FFFF, and legal characters too.
-fn is_illegal_at(s: &[u8], i: usize) -> bool
+pub fn is_illegal_at(s: &[u8], i: usize) -> bool
     ensures { λ r. ⌜ r ≡ illegal-here (drop i (now (s .entry))) ⌝ }
 {
     if s.len() <= i {

@@ -13,6 +13,7 @@ pub use calls::check_chars;
 pub use calls::check_text;
 pub use chars::chars_number;
 pub use chars::check_suspect_byte;
+pub use chars::is_illegal_at;
 pub use chars::is_xml_char;
 pub use keywords::at_keyword;
 pub use numbers::number;

@@ -166,16 +166,28 @@ module _ (D : Dialect) (A : AsciiNames D) where
       let h₃ : i + length s + length y ≤ length w = rest-in (i + length s) w y (z ++ r) h₂ e₂ in
       (λ t. premised D calm pe k (part-at (i + length s) w y (z ++ r) h₂ e₂ t) && same-premise calm f w r (i + length s + length y) h₃ e₃ t)
 
-  from-parts : (calm : List ℕ → Bool) → Cuts-parts D calm → Cuts D calm
-  from-parts calm law w v t cut =
+  -- a division that meets the premise, as parts that meet it
+  record Calm (calm : List ℕ → Bool) {w : List ℕ} (v : Division D w) : Type 0 where
+    same : Same v
+    meets : T (Premise D calm (same .parts .fills))
+
+  calm-parts : (calm : List ℕ → Bool) (w : List ℕ) (v : Division D w) → T (premise D calm w false (v .entries)) → Calm calm v
+  calm-parts calm w v t =
       let m : Same v = parts-of v in
       let d : Parts D w = m .parts in
       let l : length w ≡ length (d .front) + suc (length (d .inner ++ (93 ∷ d .back))) = ap length (d .split) ∙ length-append (d .front) (91 ∷ (d .inner ++ (93 ∷ d .back))) in
       let n₁ : length (d .front) + 1 ≡ suc (length (d .front)) = omega arith in
       let e : drop (suc (length (d .front))) w ≡ d .inner ++ (93 ∷ d .back) =
       ap (λ (n : ℕ). drop n w) (sym n₁) ∙ rest-after (length (d .front)) w (91 ∷ []) (d .inner ++ (93 ∷ d .back)) (ap (drop (length (d .front))) (d .split) ∙ drop-append-seam (d .front) (91 ∷ (d .inner ++ (93 ∷ d .back)))) in
-      let p : T (Premise D calm (d .fills)) = subst T (ap (premise D calm w false) (sym (m .entries)) ∙ same-premise calm (d .fills) w (93 ∷ d .back) (suc (length (d .front))) (omega arith) e) t in
-      law w d p cut ∙ (λ i. promised (m .opening i) (m .closing i) cut)
+      record { same = m; meets = subst T (ap (premise D calm w false) (sym (m .entries)) ∙ same-premise calm (d .fills) w (93 ∷ d .back) (suc (length (d .front))) (omega arith) e) t }
+
+  pub parts-met : (calm : List ℕ → Bool) (w : List ℕ) (v : Division D w) → T (premise D calm w false (v .entries)) → (d : Parts D w) × T (Premise D calm (d .fills))
+  parts-met calm w v t = let c : Calm calm v = calm-parts calm w v t in (c .same .parts, c .meets)
+
+  from-parts : (calm : List ℕ → Bool) → Cuts-parts D calm → Cuts D calm
+  from-parts calm law w v t cut =
+      let c : Calm calm v = calm-parts calm w v t in
+      law w (c .same .parts) (c .meets) cut ∙ (λ i. promised (c .same .opening i) (c .same .closing i) cut)
 
   -- THE THEOREMS, for every name class with XML's ASCII part
   pub divided : (w : List ℕ) → doctypedecl D w ↔ (Front D w ⊎ Division D w)

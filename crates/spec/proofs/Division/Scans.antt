@@ -87,7 +87,7 @@ module _ (D : Dialect) (A : AsciiNames D) where
   weaker pe comment y t = t
   weaker pe reference y t = t
 
-  weaken : {pe : Bool} {w : List ℕ} (f : Filling D pe w) → T (Premise D bare f) → T (Premise D quoting f)
+  pub weaken : {pe : Bool} {w : List ℕ} (f : Filling D pe w) → T (Premise D bare f) → T (Premise D quoting f)
   weaken (last b) t = tt
   weaken (next {pe = pe} k s y z e b l f) t = go (premised D bare pe k y) (premised D quoting pe k y) (weaker pe k y) (weaken f) t
     where

@@ -34,7 +34,7 @@ use Rattle.spec.proofs.Agreement.Holds.{contains-avoid, contains-after,
 use Rattle.spec.proofs.Dtd.Notations.{no-colon}
 use Rattle.spec.proofs.Wellformed.Names.{AsciiNames, start-sign, part-sign, check-name-whole}
 
-abbrev QG : List ℕ
+abbrev pub QG : List ℕ
 QG = 63 ∷ 62 ∷ []
 
 and-no : (b : Bool) → (b && false) ≡ false
@@ -42,7 +42,7 @@ and-no true = refl
 and-no false = refl
 
 -- the first "?>" after a text without it is the one that stands at its end
-first-mark : (u v : List ℕ) → contains QG u ≡ false → before QG (u ++ 63 ∷ 62 ∷ v) ≡ length u
+pub first-mark : (u v : List ℕ) → contains QG u ≡ false → before QG (u ++ 63 ∷ 62 ∷ v) ≡ length u
 unfolding before contains starts
 first-mark [] v h = refl
 first-mark (b ∷ []) v h = rw (and-no (eqb b 63))
@@ -62,7 +62,7 @@ mark-first (b ∷ d ∷ u) v h = go (eqb b 63 && (eqb d 62 && true)) h (λ e. ma
     go true e f = absurd (omega arith)
     go false e f = f (omega arith)
 
-abbrev Unmarked : Lang
+abbrev pub Unmarked : Lang
 Unmarked = Text ∖ (Text · lit "?>" · Text)
 
 unmarked-free : (u : List ℕ) → Unmarked u → contains QG u ≡ false
@@ -120,7 +120,7 @@ module _ (D : Dialect) (A : AsciiNames D) where
   one-sign : (s : String) → T (all-ascii (ascii s)) → (b : ℕ) → one-of s b ≡ true → Ch (one-of s) (b ∷ [])
   one-sign s h b e = ascii-char (one-of s) b (among-ascii (ascii s) h b (true→T (one-of s b) e)) (true→T (one-of s b) e)
 
-  reserved-xml : (t : List ℕ) → reserved t ≡ true → Xml t
+  pub reserved-xml : (t : List ℕ) → reserved t ≡ true → Xml t
   unfolding reserved
   reserved-xml [] e = absurd (true≢false (sym e))
   reserved-xml (x ∷ []) e = absurd (true≢false (sym e))
@@ -158,18 +158,18 @@ module _ (D : Dialect) (A : AsciiNames D) where
       (length t + 0, rw (n, c, r))
 
   -- the whole instruction
-  abbrev Inner : Lang
+  abbrev pub Inner : Lang
   Inner = PITarget D · Opt (S · Unmarked)
 
   name-avoids : (a : ℕ) → a < 128 → D .start a ≡ false → D .part a ≡ false → (t : List ℕ) → Name D t → avoids a t ≡ true
   unfolding Name
   name-avoids a l s p t n = ap (avoids a) (n .split) ∙ avoids-append a (n .left) (n .right) ∙ (λ i. class-avoids (D .start) a l s (star-one (n .first)) i && class-avoids (D .part) a l p (n .second) i)
 
-  sign-avoids : (a : ℕ) → a < 128 → start-sign a ≡ false → part-sign a ≡ false → (t : List ℕ) → PITarget D t → avoids a t ≡ true
+  pub sign-avoids : (a : ℕ) → a < 128 → start-sign a ≡ false → part-sign a ≡ false → (t : List ℕ) → PITarget D t → avoids a t ≡ true
   unfolding PITarget NCName
   sign-avoids a l s p t x = name-avoids a l (A .start-ascii a l ∙ s) (A .part-ascii a l ∙ p) t (x .0 .0)
 
-  inner-free : (u : List ℕ) → Inner u → contains QG u ≡ false
+  pub inner-free : (u : List ℕ) → Inner u → contains QG u ≡ false
   unfolding S contains
   inner-free u c = ap (contains QG) (c .split) ∙ contains-avoid 63 (62 ∷ []) (c .left) (c .right) (sign-avoids 63 (omega arith) refl refl (c .left) (c .first)) ∙ go (c .right) (c .second)
     where

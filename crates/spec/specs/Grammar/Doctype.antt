@@ -4,7 +4,7 @@ use Rattle.spec.specs.Grammar.Languages.{Lang, lit, _·_, _∣_, Star, O
 use Rattle.spec.specs.Grammar.Characters.{S, S?}
 use Rattle.spec.specs.Grammar.Names.{Dialect, Name, PEReference}
 use Rattle.spec.specs.Grammar.Literals.{ExternalID}
-use Rattle.spec.specs.Grammar.Declarations.{markupdecl}
+use Rattle.spec.specs.Grammar.Declarations.{PI, Comment, markupdecl}
 
 module _ (D : Dialect) where
   -- [28b] intSubset ::= (markupdecl | DeclSep)*    [28a] DeclSep ::= PEReference | S;
@@ -16,3 +16,7 @@ module _ (D : Dialect) where
   -- departure: the first S is optional
   unfoldable pub doctypedecl : Lang
   doctypedecl = S? · Name D · Opt (S · ExternalID) · S? · Opt (lit "[" · intSubset · lit "]" · S?)
+
+  -- [27] Misc ::= Comment | PI | S
+  unfoldable pub Misc : Lang
+  Misc = Comment ∣ PI D ∣ S

@@ -1,0 +1,43 @@
+-- The code's answers: the rule's places, counted from the text's first byte. Assumes nothing: these are definitions.
+use mathlib.Core.List.{List}
+use Prim.Native.Nat.{ℕ, _+_}
+use lib.ListN.{drop}
+use Rattle.spec.specs.Basics.{pick}
+use Rattle.spec.specs.Grammar.Languages.{ascii}
+use Rattle.spec.specs.Reading.Prolog as Rule
+use Rattle.spec.specs.Reading.Prolog.{word-at, doctype-end, is-declaration, declared, docked}
+use Rattle.spec.specs.Reading.Readers.{starts}
+use Rattle.spec.specs.Reading.Scan.{Place, at, later}
+use Rattle.markup.specs.declared.places.Found.{Found}
+use Rattle.scan.specs.Answers.{placed}
+use Rattle.prolog.specs.declared.items.Item.{Item}
+use Rattle.prolog.specs.declared.items.Item.the-variants.{Declaration, Doctype, Other, CutOff, CutDoctype}
+
+-- what the rule says of the bytes from a place on
+abbrev pub placed-item : ℕ → Rule.Item → Item
+placed-item from (Rule.declaration i j) = Declaration (from + i) (from + j)
+placed-item from (Rule.doctype i j) = Doctype (from + i) (from + j)
+placed-item from (Rule.other i) = Other (from + i)
+placed-item from (Rule.cut-off i) = CutOff (from + i)
+placed-item from (Rule.cut-doctype i) = CutDoctype (from + i)
+
+unfoldable pub item-from : (List ℕ → Rule.Item) → List ℕ → ℕ → Item
+item-from f s from = placed-item from (f (drop from s))
+
+unfoldable pub place-from : (List ℕ → Place) → List ℕ → ℕ → Found
+place-from f s from = placed (later from (f (drop from s)))
+
+-- A turn of the rule, in two parts. How far a comment or an instruction that begins the text goes; no byte, where neither does:
+unfoldable pub misc-end : List ℕ → Place
+misc-end w =
+    pick (starts (ascii "<!--") w) (later 7 (word-at "-->" (drop 4 w)))
+    (pick (is-declaration w) (at 0)
+    (pick (starts (ascii "<?") w) (later 4 (word-at "?>" (drop 2 w)))
+    (at 0)))
+
+-- and what is found, where neither does and no white space
+unfoldable pub begun : List ℕ → Rule.Item
+begun w =
+    pick (is-declaration w) (declared 0 (word-at "?>" (drop 2 w)))
+    (pick (starts (ascii "<!DOCTYPE") w) (docked 0 (doctype-end (drop 9 w)))
+    (Rule.other 0))

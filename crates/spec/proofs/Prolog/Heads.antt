@@ -1,0 +1,134 @@
+-- Where a DOCTYPE's text ends: the rule passes its head as the quick scan does, and then its subset. Assumes nothing.
+use mathlib.Core.Bool.{Bool, true, false, _&&_, _||_, not, true≢false}
+use mathlib.Core.List.{List, [], _∷_, _++_, append-assoc}
+use mathlib.Core.Logic.{inl, inr}
+use mathlib.Core.Path.{_≡_, refl, sym, _∙_, ap}
+use Prim.Native.Nat.{ℕ, suc, _+_}
+use native.Mathlib.Omega.{arith}
+use lib.Dec.{T, eqb}
+use lib.ListN.{length, drop, length-append}
+use lib.Seq.{drop-append-seam, drop-drop}
+use Rattle.spec.specs.Basics.{pick}
+use Rattle.spec.specs.Grammar.Characters.{S?, space}
+use Rattle.spec.specs.Grammar.Division.{Front}
+use Rattle.spec.specs.Grammar.Languages.{ascii, one-of, none-of}
+use Rattle.spec.specs.Grammar.Names.{Dialect}
+use Rattle.spec.specs.Premise.{bare}
+use Rattle.spec.specs.Promises.{Handed}
+use Rattle.spec.specs.Reading.Prolog.{word-at, head-end, after-head, after-subset, doctype-end}
+use Rattle.spec.specs.Reading.Readers.{starts, before}
+use Rattle.spec.specs.Reading.Scan.{Place, at, later, subset-end}
+use Rattle.spec.proofs.Agreement.Words.{contains-at}
+use Rattle.spec.proofs.Base.Tests.{eqb-yes}
+use Rattle.spec.proofs.Characters.Bytes.{avoids, class-avoids}
+use Rattle.spec.proofs.Division.Clear.{later-suc, later-later, later-zero, Clear, Passes, clear-tame, clear-filling, within-front}
+use Rattle.spec.proofs.Division.Places.{parts-met}
+use Rattle.spec.proofs.Division.Scans.{found-after, weaken}
+use Rattle.spec.proofs.Wellformed.Names.{AsciiNames}
+
+-- the search for the head's end passes single signs and literals
+plain-no : (b : ℕ) → T (none-of "\"'<>[]" b) → (one-of "\"'" b ≡ false) × (one-of "[>" b ≡ false)
+plain-no b t = go (eqb b 34) (eqb b 39) (eqb b 60) (eqb b 62) (eqb b 91) (eqb b 93) t
+  where
+    go : (a b c d e f : Bool) → T (not (a || (b || (c || (d || (e || (f || false))))))) → ((a || (b || false)) ≡ false) × ((e || (d || false)) ≡ false)
+    go true b c d e f t = absurd t
+    go false true c d e f t = absurd t
+    go false false true d e f t = absurd t
+    go false false false true e f t = absurd t
+    go false false false false true f t = absurd t
+    go false false false false false f t = (refl, refl)
+
+inside : (q : ℕ) (x r : List ℕ) → avoids (suc q) x ≡ true → head-end (suc q) (x ++ r) ≡ later (length x) (head-end (suc q) r)
+unfolding head-end
+inside q [] r h = later-zero (head-end (suc q) r)
+inside q (b ∷ x) r h = go (eqb b (suc q)) h (inside q x r)
+  where
+    go : (t : Bool) → (not t && avoids (suc q) x) ≡ true → (avoids (suc q) x ≡ true → head-end (suc q) (x ++ r) ≡ later (length x) (head-end (suc q) r))
+        → later 1 (head-end (pick t 0 (suc q)) (x ++ r)) ≡ later (suc (length x)) (head-end (suc q) r)
+    go true e ih = absurd (true≢false (sym e))
+    go false e ih = ap (later 1) (ih e) ∙ later-suc (length x) (head-end (suc q) r)
+
+literal-size : (n : ℕ) (p : Place) → later 1 (later n (later 1 p)) ≡ later (suc (n + 1)) p
+literal-size n p = ap (later 1) (later-later n 1 p) ∙ later-suc (n + 1) p
+
+literal : (q : ℕ) (x r : List ℕ) → one-of "[>" (suc q) ≡ false → one-of "\"'" (suc q) ≡ true → avoids (suc q) x ≡ true → head-end 0 (suc q ∷ (x ++ (suc q ∷ r))) ≡ later (suc (length x + 1)) (head-end 0 r)
+unfolding head-end
+literal q x r m n h = rw (m, n, inside q x (suc q ∷ r) h, eqb-yes (suc q) (suc q) refl) (literal-size (length x) (head-end 0 r))
+
+head-passes : Passes (head-end 0)
+unfolding head-end
+head-passes = record {
+  plain = λ b r t. let (p, q) = plain-no b t in rw (q, p);
+  double = λ x r h. literal 33 x r refl refl h;
+  single = λ x r h. literal 38 x r refl refl h;
+}
+
+-- the first place of a sign that a text does not have is where it stands after it
+pub first-sign : (a : ℕ) (u v : List ℕ) → avoids a u ≡ true → before (a ∷ []) (u ++ a ∷ v) ≡ length u
+unfolding before starts
+first-sign a [] v h = rw (eqb-yes a a refl)
+first-sign a (b ∷ u) v h = go (eqb b a) h (first-sign a u v)
+  where
+    go : (t : Bool) → (not t && avoids a u) ≡ true → (avoids a u ≡ true → before (a ∷ []) (u ++ a ∷ v) ≡ length u) → pick (t && true) 0 (suc (before (a ∷ []) (u ++ a ∷ v))) ≡ suc (length u)
+    go true e ih = absurd (true≢false (sym e))
+    go false e ih = ap suc (ih e)
+
+module _ (D : Dialect) (A : AsciiNames D) where
+  clear-head : (w : List ℕ) → Front D w → Clear (head-end 0) w
+  clear-head w l = clear-tame head-passes (within-front D A w l)
+
+  -- without a subset
+  front-ends : (t r : List ℕ) → Front D t → doctype-end (t ++ 62 ∷ r) ≡ at (length t)
+  unfolding doctype-end starts
+  front-ends t r f =
+      ap (after-head (t ++ 62 ∷ r)) (found-after (head-end 0) t (62 ∷ r) (clear-head t f) (unfold head-end in refl))
+      ∙ (rw (drop-append-seam t (62 ∷ r)))
+
+  -- with one: x the head, y the subset, z the white space after it
+  subset-ends : (x y z r : List ℕ) → Front D x → Clear (subset-end 0 0) y → avoids 62 z ≡ true
+      → doctype-end (x ++ (91 ∷ (y ++ (93 ∷ (z ++ 62 ∷ r))))) ≡ at (length x + suc (length y + suc (length z)))
+  unfolding doctype-end
+  subset-ends x y z r f c a =
+      ap (after-head w) (found-after (head-end 0) x (91 ∷ v) (clear-head x f) (unfold head-end in refl))
+      ∙ ap (λ (u : List ℕ). pick (starts (ascii ">") u) (at (length x)) (after-subset w (later (suc (length x)) (subset-end 0 0 (drop (suc (length x)) w))))) (drop-append-seam x (91 ∷ v))
+      ∙ opened
+    where
+      v : List ℕ
+      v = y ++ (93 ∷ (z ++ 62 ∷ r))
+
+      w : List ℕ
+      w = x ++ (91 ∷ v)
+
+      inner : drop (suc (length x)) w ≡ v
+      inner = let n : suc (length x) ≡ length x + 1 = omega arith in ap (λ (k : ℕ). drop k w) n ∙ sym (drop-drop 1 (length x) w) ∙ ap (drop 1) (drop-append-seam x (91 ∷ v))
+
+      rest : drop (suc (length x) + length y) w ≡ 93 ∷ (z ++ 62 ∷ r)
+      rest = sym (drop-drop (length y) (suc (length x)) w) ∙ ap (drop (length y)) inner ∙ drop-append-seam y (93 ∷ (z ++ 62 ∷ r))
+
+      sign : word-at ">" (93 ∷ (z ++ 62 ∷ r)) ≡ at (suc (length z))
+      sign = unfold word-at in rw (contains-at 62 [] (93 ∷ z) r, first-sign 62 (93 ∷ z) r a)
+
+      other-sign : (p : Place) → pick (starts (ascii ">") (91 ∷ v)) (at (length x)) p ≡ p
+      other-sign p = unfold starts in refl
+
+      opened : pick (starts (ascii ">") (91 ∷ v)) (at (length x)) (after-subset w (later (suc (length x)) (subset-end 0 0 (drop (suc (length x)) w)))) ≡ at (length x + suc (length y + suc (length z)))
+      opened =
+          other-sign (after-subset w (later (suc (length x)) (subset-end 0 0 (drop (suc (length x)) w))))
+          ∙ ap (λ (u : List ℕ). after-subset w (later (suc (length x)) (subset-end 0 0 u))) inner
+          ∙ ap (λ (p : Place). after-subset w (later (suc (length x)) p)) (found-after (subset-end 0 0) y (93 ∷ (z ++ 62 ∷ r)) c (unfold subset-end in refl))
+          ∙ ap (λ (u : List ℕ). later (suc (length x) + length y) (word-at ">" u)) rest ∙ ap (later (suc (length x) + length y)) sign
+          ∙ ap at (let n : suc (length x) + length y + suc (length z) ≡ length x + suc (length y + suc (length z)) = omega arith in n)
+
+  pub doctype-ends : (t r : List ℕ) → Handed D t → doctype-end (t ++ 62 ∷ r) ≡ at (length t)
+  unfolding S?
+  doctype-ends t r (inl f) = front-ends t r f
+  doctype-ends t r (inr (v, p)) =
+      let (d, m) = parts-met D A bare t v p in
+      let x : List ℕ = d .front in
+      let y : List ℕ = d .inner in
+      let z : List ℕ = d .back in
+      let e : t ++ 62 ∷ r ≡ x ++ (91 ∷ (y ++ (93 ∷ (z ++ 62 ∷ r)))) =
+      ap (λ (u : List ℕ). u ++ 62 ∷ r) (d .split) ∙ append-assoc x (91 ∷ (y ++ (93 ∷ z))) (62 ∷ r) ∙ ap (λ (u : List ℕ). x ++ (91 ∷ u)) (append-assoc y (93 ∷ z) (62 ∷ r)) in
+      let l : length t ≡ length x + suc (length y + suc (length z)) =
+      ap length (d .split) ∙ length-append x (91 ∷ (y ++ (93 ∷ z))) ∙ ap (λ (n : ℕ). length x + suc n) (length-append y (93 ∷ z)) in
+      ap doctype-end e ∙ subset-ends x y z r (d .heads) (clear-filling D A (d .fills) (weaken D A (d .fills) m)) (class-avoids space 62 (omega arith) refl (d .ends)) ∙ ap at (sym l)

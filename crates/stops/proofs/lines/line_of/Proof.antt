@@ -1,0 +1,31 @@
+-- `stops::lines::line_of` meets its contract. The invariant: n is the line of the place i. Assumes nothing.
+use mathlib.Core.Path.{_≡_}
+use Prim.Native.Nat.{_-_, _≤_}
+use lib.ListN.{length}
+use Rattle.stops.specs.Lines.{line}
+use Rattle.stops.proofs.Counting.{lines}
+use Rattle.stops.proofs.lines.line_of.Statement.{statement}
+use Rattle.stops.proofs.lines.line_of.Tie as tie
+
+abbrev Inv-loop : tie.InvT-loop
+Inv-loop text at n₀ i₀ n i = (n ≡ line text i) × (i ≤ at)
+
+abbrev μ-loop : tie.MeasureT-loop
+μ-loop text at n₀ i₀ n i = length text - i
+
+pub line-of-spec : {M : Type 1} → statement M
+line-of-spec =
+    tie.close
+    (tie.spec
+    Inv-loop
+    μ-loop
+    (λ c. search lines)  -- loop-holds
+    (λ c. search lines)  -- returns
+    (λ c. search lines)  -- shared-slice-read-b
+    (λ c. search lines)  -- add-i
+    (λ c. search lines)  -- loop-less
+    (λ c. search lines)  -- loop-again
+    (λ c. search lines)  -- add-n
+    (λ c. search lines)  -- loop-less-2
+    (λ c. search lines)  -- loop-again-2
+    (λ c. search lines))  -- returns-2
