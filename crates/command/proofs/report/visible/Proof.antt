@@ -1,0 +1,36 @@
+-- `command::report::visible` is safe and ends. The invariant: the buffer keeps its length. The measure is what is left of the entry.
+-- Assumes nothing.
+use Prim.Native.Nat.{_-_}
+use mathlib.Core.Path.{_≡_}
+use lib.ListN.{length}
+use borrow.Author.Needs.{needs}
+use Rattle.command.proofs.report.visible.Statement.{statement}
+use Rattle.command.proofs.report.visible.Tie as tie
+
+abbrev Inv-loop : tie.InvT-loop
+Inv-loop out₀ at entry n₀ i₀ out n i = length out ≡ length out₀
+
+abbrev μ-loop : tie.MeasureT-loop
+μ-loop out₀ at entry n₀ i₀ out n i = length entry - i
+
+pub visible-spec : {M : Type 1} → statement M
+visible-spec =
+    tie.close
+    (tie.spec
+    Inv-loop
+    μ-loop
+    (λ c. search needs)  -- loop-holds
+    (λ c κs. search needs)  -- width-requires
+    (λ c κs. search needs)  -- forth-requires
+    (λ c. search needs)  -- shared-slice-read-ends-line
+    (λ c κs. search needs)  -- ends-line-requires
+    (λ c. search needs)  -- same-length
+    (λ c. search needs)  -- returns
+    (λ c. search needs)  -- same-length-2
+    (λ c. search needs)  -- returns-2
+    (λ c κs. search needs)  -- between-requires
+    (λ c κs. search needs)  -- character-requires
+    (λ c. search needs)  -- loop-less
+    (λ c. search needs)  -- loop-again
+    (λ c. search needs)  -- same-length-3
+    (λ c. search needs))  -- returns-3

@@ -1,0 +1,162 @@
+// Checks the XML declaration and the DOCTYPE of the files that its arguments name, and writes a line for each.
+ghost use mathlib.Core.Path.{_≡_};
+ghost use lib.ListN.{length};
+
+mod bytes;
+mod check;
+mod file;
+mod options;
+mod report;
+mod usage;
+mod words;
+
+use file::Filled;
+use libc::STDOUT_FILENO;
+use options::Options;
+use options::Word;
+
+// Where the exit status goes, as a digit: a program cannot set its own, so the script that starts it reads it there.
+const STATUS_FILENO: i32 = 3;
+
+// The exit status: all files accepted, one refused, or one that could not be read (also wrong usage). The highest counts.
+const GOOD: u8 = 0;
+
+const REFUSED: u8 = 1;
+
+const FAILED: u8 = 2;
+
+// What is carried from one argument to the next.
+struct Progress {
+    status: u8,
+    ended: bool,
+}
+
+// Room for what is held of a file, and a byte more to see whether the file goes on. The `ensures` gives only the length, since the
+// checker does not hold a list of this size.
+fn room() -> [u8; 2097153]
+    ensures { λ r. ⌜ length r ≡ 2097153 ⌝ }
+{
+    [0; 2097153]
+}
+
+// Checks one file, and answers the status that it asks for.
+fn check_file(name: &[u8], verbose: bool, held: &mut [u8], out: &mut [u8]) -> u8 {
+    match file::fill(name, held) {
+        Filled::Failed => FAILED,
+        Filled::Bytes(n) => {
+            let text = file::text(held, n);
+            let verdict = check::walk(text, n <= file::HELD);
+            if report::say(out, name, text, verdict, verbose) {
+                return status_of(verdict);
+            }
+            unwritten()
+        }
+    }
+}
+
+fn status_of(verdict: check::Verdict) -> u8 {
+    match verdict {
+        check::Verdict::Accepted(_) => GOOD,
+        check::Verdict::Refused(_, _) => REFUSED,
+    }
+}
+
+// A report that did not reach its reader is a failure like a file that was not read.
+fn unwritten() -> u8 {
+    os::fail(b"standard output");
+    FAILED
+}
+
+// Checks the file that an argument names, where it is no option.
+fn argument(
+    before: Progress,
+    i: usize,
+    verbose: bool,
+    word: &mut [u8],
+    held: &mut [u8],
+    out: &mut [u8],
+) -> Progress {
+    let n = os::arg(i, word);
+    if os::errno() != 0 {
+        os::fail(b"a file name");
+        return Progress {
+            status: FAILED,
+            ended: before.ended,
+        };
+    }
+    let name = bytes::front(word, n);
+    match options::kind(name, before.ended) {
+        Word::File => {
+            let status = check_file(name, verbose, held, out);
+            Progress {
+                status: worse(before.status, status),
+                ended: before.ended,
+            }
+        }
+        Word::End => Progress {
+            status: before.status,
+            ended: true,
+        },
+        Word::Verbose | Word::Help | Word::Numbers | Word::Unknown => before,
+    }
+}
+
+fn worse(a: u8, b: u8) -> u8 {
+    if a < b { b } else { a }
+}
+
+fn check_all(verbose: bool, word: &mut [u8], held: &mut [u8], out: &mut [u8]) -> u8 {
+    let count = os::arg_count();
+    let mut progress = Progress {
+        status: GOOD,
+        ended: false,
+    };
+    let mut i = 1;
+    while i < count {
+        progress = argument(progress, i, verbose, word, held, out);
+        i += 1;
+    }
+    progress.status
+}
+
+// Does what the options ask for, and answers the status.
+fn run(options: Options, word: &mut [u8], held: &mut [u8], out: &mut [u8]) -> u8 {
+    if options.unknown != 0 {
+        let n = os::arg(options.unknown, word);
+        usage::unknown(bytes::front(word, n));
+        return FAILED;
+    }
+    if options.help {
+        return written(usage::help());
+    }
+    if options.numbers {
+        let n = words::table(out);
+        return written(io::write_all(STDOUT_FILENO, bytes::front(out, n)));
+    }
+    if options.file == 0 {
+        usage::wrong();
+        return FAILED;
+    }
+    check_all(options.verbose, word, held, out)
+}
+
+fn written(is: bool) -> u8 {
+    if is { GOOD } else { unwritten() }
+}
+
+fn tell(status: u8) {
+    match status {
+        GOOD => io::write_all(STATUS_FILENO, b"0"),
+        REFUSED => io::write_all(STATUS_FILENO, b"1"),
+        _ => io::write_all(STATUS_FILENO, b"2"),
+    }
+    ;
+}
+
+fn main() {
+    let mut word = io::buffer();
+    let mut out = io::large_buffer();
+    let mut held = room();
+    let options = options::read(&mut word);
+    tell(run(options, &mut word, &mut held, &mut out));
+}

@@ -1,0 +1,96 @@
+// The arguments that are options. They may stand before, between and after the files, and count for all of them.
+use crate::bytes;
+
+// What an argument is.
+pub enum Word {
+    File,
+    Verbose,
+    Help,
+    Numbers,
+    // `--`: every argument after it is a file.
+    End,
+    Unknown,
+}
+
+pub struct Options {
+    pub verbose: bool,
+    pub help: bool,
+    pub numbers: bool,
+    // The last unknown option, by its place among the arguments; 0 where there is none.
+    pub unknown: usize,
+    // The last file, likewise.
+    pub file: usize,
+    // Whether a `--` has come.
+    pub ended: bool,
+}
+
+pub fn kind(word: &[u8], ended: bool) -> Word {
+    if ended {
+        return Word::File;
+    }
+    if source::byte_at(word, 0) != b'-' {
+        return Word::File;
+    }
+    // A `-` alone is standard input.
+    if word.len() == 1 {
+        return Word::File;
+    }
+    if bytes::same(word, b"-v") {
+        return Word::Verbose;
+    }
+    if bytes::same(word, b"--help") {
+        return Word::Help;
+    }
+    if bytes::same(word, b"--numbers") {
+        return Word::Numbers;
+    }
+    if bytes::same(word, b"--") {
+        return Word::End;
+    }
+    Word::Unknown
+}
+
+// Reads all arguments, each into `word`.
+pub fn read(word: &mut [u8]) -> Options {
+    let count = os::arg_count();
+    let mut options = Options {
+        verbose: false,
+        help: false,
+        numbers: false,
+        unknown: 0,
+        file: 0,
+        ended: false,
+    };
+    let mut i = 1;
+    while i < count {
+        options = next(options, i, word);
+        i += 1;
+    }
+    options
+}
+
+fn next(before: Options, i: usize, word: &mut [u8]) -> Options {
+    let n = os::arg(i, word);
+    let mut options = before;
+    match kind(bytes::front(word, n), before.ended) {
+        Word::File => {
+            options.file = i;
+        }
+        Word::Verbose => {
+            options.verbose = true;
+        }
+        Word::Help => {
+            options.help = true;
+        }
+        Word::Numbers => {
+            options.numbers = true;
+        }
+        Word::End => {
+            options.ended = true;
+        }
+        Word::Unknown => {
+            options.unknown = i;
+        }
+    }
+    options
+}
