@@ -35,17 +35,26 @@ pub fn step(gate: Gate, word: &[u8], wanted: &[u8], text: &[u8]) -> Stepped {
     if bytes::same(word, b"decl") {
         return declared(gate::decl_step(gate, text));
     }
-    if bytes::same(word, b"doctype0") {
-        return docked(gate::doctype_step(gate, 0, text));
-    }
-    if bytes::same(word, b"doctype1") {
-        return docked(gate::doctype_step(gate, 1, text));
-    }
-    if bytes::same(word, b"doctype2") {
-        return docked(gate::doctype_step(gate, 2, text));
+    let phase = phase_of(word);
+    if phase < 3 {
+        return docked(gate::doctype_step(gate, phase, text));
     }
     let reply = calls::reply(word, text);
     Stepped { gate, reply }
+}
+
+// The phase that the last letter of `doctype0`, `doctype1` or `doctype2` gives, or 3 for another call.
+fn phase_of(word: &[u8]) -> u8 {
+    if bytes::same(word, b"doctype0") {
+        return 0;
+    }
+    if bytes::same(word, b"doctype1") {
+        return 1;
+    }
+    if bytes::same(word, b"doctype2") {
+        return 2;
+    }
+    3
 }
 
 fn declared(d: Declared) -> Stepped {
