@@ -13,8 +13,8 @@ use Rattle.spec.proofs.Agreement.Accepts.{Decides}
 use Rattle.spec.proofs.Characters.AppendixB.{appendix-B-ascii}
 use Rattle.spec.proofs.Checks.NCNames.{ncname-decides}
 use Rattle.source.proofs.Admitting.{calling}
-use Rattle.names.specs.Names.{dialect}
-use Rattle.names.specs.declared.classes.Names.the-variants.{AppendixB}
+use Rattle.classes.specs.Classes.{dialect}
+use Rattle.classes.specs.declared.Names.the-variants.{AppendixB}
 
 pub ncname-is : (w : List ℕ) (m : ℕ) (c : Bool) → m ≡ number-of (check-name (dialect AppendixB) w) → c ≡ contains (58 ∷ []) w → (eqb m 0 && not c) ≡ is-ncname appendix-B w
 unfolding dialect is-ncname

@@ -17,9 +17,9 @@ use Rattle.error.specs.declared.Answer.{Answer}
 use Rattle.error.specs.declared.Answer.the-variants.{At, No}
 use Rattle.error.proofs.Laws.{seq-no, seq-at, choose-yes, choose-no, took-nothing}
 use Rattle.source.proofs.Admitting.{calling}
-use Rattle.wellformed.specs.Numbers.{answer-number}
-use Rattle.wellformed.proofs.Steps.{answered}
-use Rattle.wellformed.proofs.Words.{word-then}
+use Rattle.error.specs.Numbers.{answer-number}
+use Rattle.error.proofs.Laws.{answered}
+use Rattle.search.proofs.Words.{word-then}
 use Rattle.cursor.proofs.Eating.{eat-fits}
 use Rattle.cursor.proofs.Spaces.{skip-takes, required-none, required-some}
 use Rattle.checks.specs.Pieces.{pseudo-attr-of}

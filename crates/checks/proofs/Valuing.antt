@@ -14,7 +14,7 @@ use Rattle.spec.specs.Grammar.XmlDecl.{latin-letter}
 use Rattle.spec.specs.Reading.Checks.{all-of, is-version-num, is-enc-name, is-yes-or-no}
 use Rattle.spec.specs.Reading.Readers.{starts, run}
 use Rattle.spec.proofs.Base.Tests.{eqb-yes, eqb-no, leb-yes, leb-no}
-use Rattle.wellformed.proofs.Runs.{run-end}
+use Rattle.search.proofs.Runs.{run-end}
 use Rattle.cursor.proofs.Spaces.{class-stop, class-go}
 use Rattle.checks.specs.Values.{enc-char, test-of}
 use Rattle.checks.specs.declared.values.Kind.{Kind}

@@ -1,8 +1,8 @@
 // Names without a colon: is_ncname of checks.rs.
-use cursor::has_byte;
+use classes::Names;
 use error::ACCEPTED;
-use names::Names;
 use names::name_number;
+use search::has_byte;
 use source::Verdict;
 use source::admit;
 ghost use Rattle.spec.specs.Grammar.AppendixB.{appendix-B};

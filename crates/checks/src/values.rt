@@ -1,5 +1,5 @@
 // What the value of a pseudo attribute may be: is_version_num and is_enc_name of checks.rs, and the test for yes or no.
-use wellformed::at_keyword;
+use search::at_keyword;
 ghost use mathlib.Core.Path.{_≡_};
 ghost use Rattle.spec.specs.Grammar.References.{digit};
 ghost use Rattle.spec.specs.Grammar.XmlDecl.{latin-letter};

@@ -1,5 +1,6 @@
 // The walk over one document: its XML declaration and its DOCTYPE, up to the root element or the first refusal.
 use crate::bytes;
+use classes::Names;
 use error::ACCEPTED;
 use error::ILLEGAL_CHAR;
 use error::NOT_UTF8;
@@ -9,7 +10,6 @@ use error::UNEXPECTED;
 use error::UNTERMINATED;
 use gate::Gate;
 use gate::Reply;
-use names::Names;
 use prolog::Item;
 use source::Point;
 

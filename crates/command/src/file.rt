@@ -40,7 +40,7 @@ fn fill_from(fd: i32, name: &[u8], buffer: &mut [u8]) -> Filled {
 // The text in the first `n` bytes of the buffer, at most as many as are held, without a byte order mark.
 pub fn text(buffer: &[u8], n: usize) -> &[u8] {
     let held = bytes::front(bytes::front(buffer, n), HELD);
-    if wellformed::at_keyword(held, 0, &[0xEF, 0xBB, 0xBF]) {
+    if search::at_keyword(held, 0, &[0xEF, 0xBB, 0xBF]) {
         bytes::rest(held, 3)
     } else {
         held

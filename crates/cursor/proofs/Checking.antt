@@ -14,7 +14,7 @@ use Rattle.spec.specs.Reading.Readers.{number-of, refuse, choose, run, contains
 use Rattle.spec.specs.Reading.Wellformed.{check-char-refs}
 use Rattle.spec.specs.Reading.Dtd.{check-pubid, check-att-value}
 use Rattle.spec.proofs.Base.Tests.{eqb-yes, eqb-no}
-use Rattle.wellformed.proofs.Runs.{run-end}
+use Rattle.search.proofs.Runs.{run-end}
 use Rattle.cursor.proofs.Spaces.{class-stop, class-go}
 
 -- the tests in the order of the production

@@ -14,7 +14,7 @@ use Rattle.spec.specs.Reading.Readers.{starts, at-end}
 use Rattle.spec.proofs.Base.Places.{drop-at, drop-end}
 use Rattle.error.specs.Read.{read, eaten}
 use Rattle.error.specs.declared.Answer.the-variants.{At, No}
-use Rattle.wellformed.proofs.Words.{word-fits}
+use Rattle.search.proofs.Words.{word-fits}
 
 -- whether the word stands at a place, as b says
 module _ (kw s : List ℕ) (at : ℕ) (b : Bool) (e : b ≡ starts kw (drop at s)) where

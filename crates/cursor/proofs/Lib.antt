@@ -2,6 +2,5 @@ pub mod Spaces
 pub mod Eating
 pub mod Parts
 pub mod Reading
-pub mod Finding
 pub mod Quotes
 pub mod Checking

@@ -22,7 +22,10 @@ use Rattle.error.specs.Read.{read, placed}
 use Rattle.error.specs.declared.Answer.{Answer}
 use Rattle.error.specs.declared.Answer.the-variants.{At, No}
 use Rattle.error.proofs.Laws.{At≢No, At-inj}
-use Rattle.cursor.proofs.Finding.{before-in, found-in, found-not}
+use Rattle.search.specs.FirstPlace.{first-place}
+use Rattle.search.specs.declared.places.Found.{Found}
+use Rattle.search.specs.declared.places.Found.the-variants.{Here, Nowhere}
+use Rattle.search.proofs.Finding.{word-within, was-nowhere, was-here, places-found}
 
 -- either quote mark, as the code tests it
 abbrev quote : ℕ → Bool
@@ -64,9 +67,9 @@ module _ (check : List ℕ → Result) (s : List ℕ) (at m : ℕ) where
     unfolding read
     literal-other n e = rw (drop-at s at h, quoted-other check (getD s at 0) (drop (at + 1) s) n, e)
 
-    pub literal-open : (e : ℕ) → quote (getD s at 0) ≡ true → e ≡ at + 1 + before (getD s at 0 ∷ []) (drop (at + 1) s) → length s ≤ e → m ≡ number unterminated → No m ≡ read (parse-quoted check) s at
+    pub literal-open : (r : Found) → quote (getD s at 0) ≡ true → r ≡ first-place (getD s at 0 ∷ []) s (at + 1) → r ≡ Nowhere → m ≡ number unterminated → No m ≡ read (parse-quoted check) s at
     unfolding read
-    literal-open e y f l g = rw (drop-at s at h, quoted-mark check (getD s at 0) (drop (at + 1) s) y, found-not (getD s at 0) s (at + 1) e f l, g)
+    literal-open r y f l g = rw (drop-at s at h, quoted-mark check (getD s at 0) (drop (at + 1) s) y, was-nowhere (getD s at 0 ∷ []) s (at + 1) r f l, g)
 
 -- A literal from `at` to e.
 pub record Literal (s : List ℕ) (at e : ℕ) : Type 0 where
@@ -93,8 +96,8 @@ pub literal-whole : (s : List ℕ) (at e : ℕ) → Literal s at e → At e ≡ 
 unfolding nothing
 literal-whole s at e l = ap At (let k : e ≡ at + (e - at) = omega (arith, l .ends) in k) ∙ sym (literal-read nothing s at e l)
 
-pub literal-closed : (s : List ℕ) (at e : ℕ) → at < length s → quote (getD s at 0) ≡ true → e ≡ at + 1 + before (getD s at 0 ∷ []) (drop (at + 1) s) → e < length s → At (e + 1) ≡ read (parse-quoted nothing) s at
-literal-closed s at e h y f l = literal-whole s at (e + 1) (record { inside = h; opens = y; closes = found-in (getD s at 0) s (at + 1) e f l; ends = rw f })
+pub literal-closed : (s : List ℕ) (at e : ℕ) (r : Found) → at < length s → quote (getD s at 0) ≡ true → r ≡ first-place (getD s at 0 ∷ []) s (at + 1) → r ≡ Here e → At (e + 1) ≡ read (parse-quoted nothing) s at
+literal-closed s at e r h y f l = let (c, d) = was-here (getD s at 0 ∷ []) s (at + 1) r f e l in literal-whole s at (e + 1) (record { inside = h; opens = y; closes = c; ends = rw d })
 
 -- There is a literal at a place, or what stands there is refused whatever the check.
 data Quoted (s : List ℕ) (at : ℕ) : Type 0 where
@@ -139,7 +142,7 @@ module _ (e : ℕ) (r : Answer) (b : r ≡ At e) (s : List ℕ) (at : ℕ) (a : 
   text-start = omega (arith, literal .ends)
 
   pub text-inside : e ≤ length s
-  text-inside = omega (arith, literal .ends, literal .inside, length-drop (at + 1) s, before-in (getD s at 0) (drop (at + 1) s) (literal .closes))
+  text-inside = omega (arith, literal .ends, literal .inside, length-drop (at + 1) s, word-within (getD s at 0 ∷ []) (drop (at + 1) s) (literal .closes))
 
   pub text-end : e - 1 ≤ length s
   text-end = omega (arith, text-inside)
@@ -168,6 +171,6 @@ text-none check s at k r a b = go (quoted s at)
     go (none n f) = a ∙ refused-all nothing s at n f ∙ sym (refused-all check s at n f)
 
 -- what parse_quoted searches, and what checks the text of a literal
-pub ruleset quotes = (literal-none, literal-other, literal-open, literal-closed, needs)
+pub ruleset quotes = (literal-none, literal-other, literal-open, literal-closed, places-found, needs)
 
 pub ruleset texts = (text-fits, text-last, text-start, text-end, text-taken, text-refused, text-none, needs)

@@ -14,7 +14,7 @@ use Rattle.spec.specs.Reading.Dtd.{skip-s}
 use Rattle.spec.proofs.Base.Tests.{eqb-yes, eqb-no}
 use Rattle.error.specs.Read.{read}
 use Rattle.error.specs.declared.Answer.the-variants.{At, No}
-use Rattle.wellformed.proofs.Runs.{run-end, run-stop, run-go}
+use Rattle.search.proofs.Runs.{run-end, run-stop, run-go}
 
 -- a run of a class, of which i is the next place, by a test t of the byte at i
 module _ (p : ℕ → Bool) (s : List ℕ) (at i : ℕ) (inv : i + run p (drop i s) ≡ at + run p (drop at s)) (h : i < length s) (t : Bool) (e : t ≡ p (getD s i 0)) where

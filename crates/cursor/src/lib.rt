@@ -18,5 +18,3 @@ pub use tokens::need_ncname;
 pub use tokens::need_nmtoken;
 pub use words::at_end;
 pub use words::eat_str;
-pub use words::find_byte;
-pub use words::has_byte;

@@ -2,8 +2,7 @@
 // parse_att_value do with the text between the quotes, of dtd.rs.
 use crate::space::require_s;
 use crate::words::eat_str;
-use crate::words::find_byte;
-use crate::words::has_byte;
+use chars::char_refs_number;
 use error::ACCEPTED;
 use error::Answer;
 use error::BAD_PUBID;
@@ -11,7 +10,9 @@ use error::LESS_THAN;
 use error::NO_LITERAL;
 use error::UNEXPECTED;
 use error::UNTERMINATED;
-use wellformed::char_refs_number;
+use search::Found;
+use search::find_byte;
+use search::has_byte;
 ghost use mathlib.Core.Path.{_≡_};
 ghost use Rattle.spec.specs.Grammar.Literals.{pubid-char};
 ghost use Rattle.spec.specs.Reading.Readers.{number-of, nothing};
@@ -29,11 +30,11 @@ pub fn parse_quoted(s: &[u8], at: usize) -> Answer
     }
     let q = s[at];
     if (q == b'"') | (q == b'\'') {
-        let e = find_byte(s, at + 1, q);
-        if e < s.len() {
-            return Answer::At(e + 1);
-        }
-        return Answer::No(UNTERMINATED);
+        let r = find_byte(s, at + 1, q);
+        let Found::Here(e) = r else {
+            return Answer::No(UNTERMINATED);
+        };
+        return Answer::At(e + 1);
     }
     Answer::No(NO_LITERAL)
 }

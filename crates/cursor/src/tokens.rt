@@ -1,16 +1,16 @@
 // Names at a place: parse_name, parse_nmtoken and reject_colon of dtd.rs.
-use crate::words::has_byte;
+use classes::Names;
 use error::Answer;
 use error::BAD_NAME;
 use error::HAS_COLON;
-use names::Names;
 use names::name_chars_end;
 use names::parse_name;
+use search::has_byte;
 ghost use mathlib.Core.Path.{_≡_};
 ghost use Rattle.spec.specs.Reading.Wellformed.{name};
 ghost use Rattle.spec.specs.Reading.Dtd.{nmtoken, ncname};
 ghost use Rattle.error.specs.Read.{read};
-ghost use Rattle.names.specs.Names.{dialect};
+ghost use Rattle.classes.specs.Classes.{dialect};
 
 // [5] Name. Where none begins, the part is empty.
 pub fn need_name(s: &[u8], at: usize, names: Names) -> Answer

@@ -14,7 +14,7 @@ use Rattle.spec.proofs.Base.Loops.{Somes}
 use Rattle.spec.proofs.Base.Somes.{some-word, some-then}
 use Rattle.error.specs.Read.{read}
 use Rattle.error.specs.declared.Answer.{Answer}
-use Rattle.wellformed.proofs.Words.{word-then, word-fits}
+use Rattle.search.proofs.Words.{word-then, word-fits}
 use Rattle.cursor.proofs.Reading.{reading}
 use Rattle.decls.specs.Items.{item-of}
 use Rattle.decls.specs.declared.lists.Item.{Item}

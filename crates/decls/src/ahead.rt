@@ -1,6 +1,6 @@
 // What parse_entity_decl and parse_notation_decl look at before they go on.
 use cursor::skip_s;
-use wellformed::at_keyword;
+use search::at_keyword;
 ghost use mathlib.Core.Path.{_≡_};
 ghost use lib.ListN.{drop};
 ghost use Rattle.decls.specs.Pieces.{quote-next, ndata-next, spaced};

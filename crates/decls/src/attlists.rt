@@ -1,6 +1,7 @@
 // Attribute-list declarations: parse_attlist_decl and what it calls, of dtd.rs.
 use crate::lists::parse_enumeration;
 use crate::lists::parse_name_group;
+use classes::Names;
 use cursor::eat_str;
 use cursor::need_name;
 use cursor::parse_att_value;
@@ -8,15 +9,14 @@ use cursor::require_s;
 use cursor::skip_s;
 use error::Answer;
 use error::UNEXPECTED;
-use names::Names;
-use wellformed::at_keyword;
+use search::at_keyword;
 ghost use mathlib.Core.Path.{_≡_};
 ghost use lib.ListN.{drop};
 ghost use Rattle.spec.specs.Reading.Refusals.{unexpected};
 ghost use Rattle.spec.specs.Reading.Readers.{refuse};
 ghost use Rattle.spec.specs.Reading.Dtd.{tokenized, word-among, parse-att-type, parse-default-decl, parse-att-def, parse-attlist-decl};
 ghost use Rattle.error.specs.Read.{read};
-ghost use Rattle.names.specs.Names.{dialect};
+ghost use Rattle.classes.specs.Classes.{dialect};
 ghost use Rattle.decls.specs.Pieces.{notation-names, fixed, more-left, att-defs};
 
 // TOKENIZED, one keyword after the other: CDATA, IDREFS, IDREF, ID, ENTITY, ENTITIES, NMTOKENS and NMTOKEN, which are tried in this

@@ -1,6 +1,7 @@
 // Entity declarations: parse_entity_decl of dtd.rs.
 use crate::ahead::at_quote;
 use crate::ahead::at_spaced_ndata;
+use classes::Names;
 use cursor::at_end;
 use cursor::eat_str;
 use cursor::need_name;
@@ -11,11 +12,10 @@ use cursor::require_s;
 use cursor::skip_s;
 use error::Answer;
 use error::UNEXPECTED;
-use names::Names;
 ghost use mathlib.Core.Path.{_≡_};
 ghost use Rattle.spec.specs.Reading.Dtd.{ndata, parse-entity-decl};
 ghost use Rattle.error.specs.Read.{read};
-ghost use Rattle.names.specs.Names.{dialect};
+ghost use Rattle.classes.specs.Classes.{dialect};
 ghost use Rattle.decls.specs.Pieces.{ndata-decl, pe-def, entity-def, pe-decl, ge-decl, entity};
 
 // [76] NDataDecl.

@@ -1,17 +1,17 @@
 // Lists with '|' between the items: parse_name_group and parse_enumeration of dtd.rs, which differ only in the item.
+use classes::Names;
 use cursor::eat_str;
 use cursor::need_name;
 use cursor::need_nmtoken;
 use cursor::skip_s;
 use error::Answer;
 use error::UNEXPECTED;
-use names::Names;
-use wellformed::at_keyword;
+use search::at_keyword;
 ghost use mathlib.Core.Path.{_≡_};
 ghost use Rattle.spec.specs.Reading.Wellformed.{name};
 ghost use Rattle.spec.specs.Reading.Dtd.{bar-list, nmtoken};
 ghost use Rattle.error.specs.Read.{read};
-ghost use Rattle.names.specs.Names.{dialect};
+ghost use Rattle.classes.specs.Classes.{dialect};
 ghost use Rattle.decls.specs.Items.{item-of, other-items};
 
 // What stands between the bars.

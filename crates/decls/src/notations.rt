@@ -1,5 +1,6 @@
 // Notation declarations: parse_notation_decl of dtd.rs.
 use crate::ahead::at_spaced_quote;
+use classes::Names;
 use cursor::at_end;
 use cursor::eat_str;
 use cursor::need_ncname;
@@ -9,11 +10,10 @@ use cursor::require_s;
 use cursor::skip_s;
 use error::Answer;
 use error::UNEXPECTED;
-use names::Names;
 ghost use mathlib.Core.Path.{_≡_};
 ghost use Rattle.spec.specs.Reading.Dtd.{second-literal, parse-notation-decl};
 ghost use Rattle.error.specs.Read.{read};
-ghost use Rattle.names.specs.Names.{dialect};
+ghost use Rattle.classes.specs.Classes.{dialect};
 ghost use Rattle.decls.specs.Pieces.{notation-id};
 
 // The system identifier after a public one, which only [83] PublicID may leave out.

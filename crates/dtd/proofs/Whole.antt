@@ -19,10 +19,10 @@ use Rattle.spec.proofs.Dtd.Texts.{doctype-agrees}
 use Rattle.error.specs.Read.{read}
 use Rattle.error.specs.declared.Answer.{Answer}
 use Rattle.source.proofs.Admitting.{call-refused, call-answered}
-use Rattle.names.specs.Names.{dialect}
-use Rattle.names.specs.declared.classes.Names.the-variants.{AppendixB}
-use Rattle.wellformed.specs.Numbers.{answer-number}
-use Rattle.wellformed.proofs.Steps.{answered}
+use Rattle.classes.specs.Classes.{dialect}
+use Rattle.classes.specs.declared.Names.the-variants.{AppendixB}
+use Rattle.error.specs.Numbers.{answer-number}
+use Rattle.error.proofs.Laws.{answered}
 use Rattle.cursor.proofs.Reading.{reading}
 use Rattle.dtd.specs.Kinds.{id-part}
 

@@ -1,4 +1,5 @@
 // Markup declarations of the internal subset: parse_markup_decl, finish_decl and parse_element_decl of dtd.rs.
+use classes::Names;
 use cursor::at_end;
 use cursor::eat_str;
 use cursor::need_name;
@@ -14,12 +15,11 @@ use markup::parse_comment;
 use markup::parse_pi;
 use markup::take_decl_body;
 use models::parse_contentspec;
-use names::Names;
-use wellformed::at_keyword;
+use search::at_keyword;
 ghost use mathlib.Core.Path.{_≡_};
 ghost use Rattle.spec.specs.Reading.Dtd.{parse-element-decl, finish-decl, parse-markup-decl};
 ghost use Rattle.error.specs.Read.{read};
-ghost use Rattle.names.specs.Names.{dialect};
+ghost use Rattle.classes.specs.Classes.{dialect};
 ghost use Rattle.dtd.specs.Kinds.{body-of, entity-or-notation, declaration};
 
 // What finish_decl of the Rust is handed as a function.

@@ -1,5 +1,6 @@
 // The whole DOCTYPE: check_doctype of dtd.rs.
 use crate::subset::parse_internal_subset;
+use classes::Names;
 use cursor::at_end;
 use cursor::eat_str;
 use cursor::need_name;
@@ -8,17 +9,16 @@ use cursor::skip_s;
 use error::ACCEPTED;
 use error::Answer;
 use error::UNEXPECTED;
-use names::Names;
+use error::number;
+use search::at_keyword;
 use source::admit;
-use wellformed::at_keyword;
-use wellformed::number;
 ghost use mathlib.Core.Path.{_≡_};
 ghost use Rattle.spec.specs.Grammar.AppendixB.{appendix-B};
 ghost use Rattle.spec.specs.Reading.Dtd.{check-doctype};
 ghost use Rattle.spec.specs.Reading.Readers.{number-of};
 ghost use Rattle.spec.specs.Promises.{ChecksDoctype};
 ghost use Rattle.error.specs.Read.{read};
-ghost use Rattle.names.specs.Names.{dialect};
+ghost use Rattle.classes.specs.Classes.{dialect};
 ghost use Rattle.dtd.specs.Kinds.{id-part, subset-part};
 
 // (S ExternalID)? of [28], the white space before it passed, and the white space after it

@@ -1,16 +1,16 @@
 // The internal subset: parse_internal_subset of dtd.rs.
 use crate::declarations::parse_markup_decl;
+use classes::Names;
 use cursor::skip_s;
 use error::Answer;
 use error::UNEXPECTED;
 use error::UNTERMINATED;
 use markup::parse_pe_reference;
-use names::Names;
 use source::byte_at;
 ghost use mathlib.Core.Path.{_≡_};
 ghost use Rattle.spec.specs.Reading.Dtd.{parse-internal-subset};
 ghost use Rattle.error.specs.Read.{read};
-ghost use Rattle.names.specs.Names.{dialect};
+ghost use Rattle.classes.specs.Classes.{dialect};
 
 // [28b] intSubset and the ']' that closes it, from the place after its '['
 pub fn parse_internal_subset(s: &[u8], at: usize, names: Names) -> Answer

@@ -11,10 +11,11 @@ use lib.ListN.{length, getD, drop}
 use lib.Seq.{drop-drop}
 use Rattle.spec.specs.Basics.{pick}
 use Rattle.spec.specs.Reading.Refusals.{Refusal, number}
-use Rattle.spec.specs.Reading.Readers.{Result, ok, err, Reader, past, _>>_, nothing, refuse, starts, choose, word-of, throughout}
+use Rattle.spec.specs.Reading.Readers.{Result, ok, err, Reader, number-of, past, _>>_, nothing, refuse, starts, choose, word-of, throughout}
 use Rattle.spec.proofs.Base.Places.{drop-at, drop-end}
 use Rattle.spec.proofs.Base.Loops.{Somes, through-end, through-turn, through-refused}
 use Rattle.error.specs.Read.{placed, read, eaten}
+use Rattle.error.specs.Numbers.{answer-number}
 use Rattle.error.specs.declared.Answer.{Answer}
 use Rattle.error.specs.declared.Answer.the-variants.{At, No}
 
@@ -144,6 +145,15 @@ walk-less R s i j r some h a e =
     let (k, (f, g)) = was-ok R s i j r a e in
     let z : 0 < k = some .some (getD s i 0) (drop (i + 1) s) k (ap R (sym (drop-at s i h)) ∙ f) in
     omega arith
+
+-- the number that a check comes to, by its answer from the text's front on
+pub answered : (C : Reader) (s : List ℕ) (r : Answer) → r ≡ read C s 0 → answer-number r ≡ number-of (C s)
+unfolding read
+answered C s r a = ap answer-number a ∙ go (C s)
+  where
+    go : (x : Result) → answer-number (placed 0 x) ≡ number-of x
+    go (ok k) = refl
+    go (err n) = refl
 
 -- what a chain of readers searches
 pub ruleset chain = (seq-no, seq-at, choose-yes, choose-no, refused, took-nothing, ate, ate-then, ate-only, ate-not, needs)

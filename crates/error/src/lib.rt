@@ -1,4 +1,7 @@
 // error.rs: NotWellFormed as a number of document 01's table, and the answer of a reader.
+mod numbers;
+
+pub use numbers::number;
 
 pub const ACCEPTED: u8 = 0;
 // longer than 1,048,576 bytes

@@ -4,6 +4,7 @@ use crate::state::Docked;
 use crate::state::Gate;
 use crate::state::Reply;
 use crate::state::counted;
+use chars::chars_number;
 use checks::declaration_number;
 use dtd::doctype_number;
 use error::ACCEPTED;
@@ -11,7 +12,6 @@ use error::OUT_OF_ORDER;
 use scan::Scanned;
 use scan::scan_admitted;
 use source::admit;
-use wellformed::chars_number;
 ghost use mathlib.Core.Path.{_≡_};
 ghost use Rattle.gate.specs.Promises.{docked, numbered, unclosed, scan-decides, Declares, Docks};
 

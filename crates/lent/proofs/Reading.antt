@@ -6,9 +6,9 @@ use borrow.Author.Needs.{needs}
 use lib.ListN.{length, getD, drop}
 use Rattle.spec.specs.Grammar.AppendixB.{appendix-B}
 use Rattle.spec.proofs.Base.Places.{drop-at, drop-end}
-use Rattle.names.specs.Names.{dialect}
+use Rattle.classes.specs.Classes.{dialect}
 use Rattle.names.specs.NamePart.{NamePart}
-use Rattle.names.specs.declared.classes.Names.the-variants.{AppendixB}
+use Rattle.classes.specs.declared.Names.the-variants.{AppendixB}
 use Rattle.lent.specs.Places.{peeked}
 use Rattle.lent.specs.declared.places.Next.the-variants.{Byte, End}
 

@@ -1,6 +1,6 @@
 // The cursor's functions as functions of a text and a place: the proofs of these follow the code, and the functions over the struct
 // need only call them.
-use names::Names;
+use classes::Names;
 use names::parse_name;
 ghost use mathlib.Core.Path.{_≡_};
 ghost use lib.Dec.{leb};

@@ -22,10 +22,10 @@ use Rattle.error.specs.declared.Answer.{Answer}
 use Rattle.error.specs.declared.Answer.the-variants.{At, No}
 use Rattle.error.proofs.Laws.{placed-past, read-on}
 use Rattle.source.proofs.Points.{points}
-use Rattle.markup.specs.FirstPlace.{first-place}
-use Rattle.markup.specs.declared.places.Found.{Found}
-use Rattle.markup.specs.declared.places.Found.the-variants.{Here, Nowhere}
-use Rattle.markup.proofs.Finding.{was-nowhere, was-here, here-onward, places-found}
+use Rattle.search.specs.FirstPlace.{first-place}
+use Rattle.search.specs.declared.places.Found.{Found}
+use Rattle.search.specs.declared.places.Found.the-variants.{Here, Nowhere}
+use Rattle.search.proofs.Finding.{was-nowhere, was-here, here-onward, places-found}
 
 -- inside quotes a body goes on after the same quote mark
 abbrev after-quote : ℕ → List ℕ → Result

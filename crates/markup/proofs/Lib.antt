@@ -1,4 +1,3 @@
-pub mod Finding
 pub mod UpTo
 pub mod DeclBody
 pub mod Targets

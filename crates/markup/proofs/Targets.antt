@@ -16,7 +16,7 @@ use Rattle.spec.specs.Reading.Readers.{Result, ok, err, number-of, past, _>>_, 
 use Rattle.spec.specs.Reading.Wellformed.{check-name}
 use Rattle.spec.specs.Reading.Dtd.{reserved, check-target, check-pi}
 use Rattle.spec.proofs.Base.Results.{number-pos}
-use Rattle.wellformed.proofs.Runs.{run-end, run-stop, run-go}
+use Rattle.search.proofs.Runs.{run-end, run-stop, run-go}
 
 -- a target: its name first, then its colon, then "xml"
 module _ (D : Dialect) (w : List ℕ) (n : ℕ) (a : n ≡ number-of (check-name D w)) where

@@ -19,11 +19,11 @@ use Rattle.spec.proofs.Base.Tests.{T→true, no→false, and-left, and-right}
 use Rattle.spec.proofs.Base.Results.{number-pos}
 use Rattle.error.specs.Read.{placed, read}
 use Rattle.error.specs.declared.Answer.the-variants.{At, No}
-use Rattle.wellformed.proofs.Words.{word-yes, word-no, by-words}
-use Rattle.markup.specs.FirstPlace.{first-place}
-use Rattle.markup.specs.declared.places.Found.{Found}
-use Rattle.markup.specs.declared.places.Found.the-variants.{Here, Nowhere}
-use Rattle.markup.proofs.Finding.{was-nowhere, was-here, places-found}
+use Rattle.search.proofs.Words.{word-yes, word-no, by-words}
+use Rattle.search.specs.FirstPlace.{first-place}
+use Rattle.search.specs.declared.places.Found.{Found}
+use Rattle.search.specs.declared.places.Found.the-variants.{Here, Nowhere}
+use Rattle.search.proofs.Finding.{was-nowhere, was-here, places-found}
 
 -- the word k was looked for from a place on, which gave r; m is what the check says of what stands before it
 module _ (k : String) (n : Refusal) (check : List ℕ → Result) (s : List ℕ) (at : ℕ) (r : Found) (a : r ≡ first-place (ascii k) s at) where

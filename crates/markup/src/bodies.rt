@@ -1,9 +1,9 @@
 // A declaration's body, as text: where it ends, and whether it holds a parameter-entity reference.
-use crate::bytes::find_byte;
-use crate::places::Found;
+use classes::Names;
+use classes::is_name_start_char;
 use error::Answer;
-use names::Names;
-use names::is_name_start_char;
+use search::Found;
+use search::find_byte;
 use source::Point;
 use source::code_point;
 ghost use mathlib.Core.Path.{_≡_};
@@ -13,7 +13,7 @@ ghost use Rattle.spec.specs.Grammar.Names.{Dialect};
 ghost use Rattle.spec.specs.Reading.Readers.{begins};
 ghost use Rattle.spec.specs.Reading.Dtd.{take-decl-body, has-pe-reference};
 ghost use Rattle.error.specs.Read.{read};
-ghost use Rattle.names.specs.Names.{dialect};
+ghost use Rattle.classes.specs.Classes.{dialect};
 
 // take_decl_body: the place of the first '>' outside quotes. Outside quotes the loop tests each byte; a quoted part ends at the same
 // quote mark, which `find_byte` looks for.

@@ -1,9 +1,9 @@
 // Comments.
-use crate::places::Found;
-use crate::places::find;
-use crate::places::has;
 use error::Answer;
-use wellformed::at_keyword;
+use search::Found;
+use search::at_keyword;
+use search::find;
+use search::has;
 ghost use mathlib.Core.Path.{_≡_};
 ghost use Rattle.spec.specs.Reading.Refusals.{unterminated};
 ghost use Rattle.spec.specs.Reading.Readers.{number-of, up-to};

@@ -1,17 +1,17 @@
 // Processing instructions.
-use crate::places::Found;
-use crate::places::find;
-use crate::places::has;
+use classes::Names;
 use error::Answer;
-use names::Names;
 use names::name_number;
-use wellformed::at_keyword;
+use search::Found;
+use search::at_keyword;
+use search::find;
+use search::has;
 ghost use mathlib.Core.Path.{_≡_};
 ghost use Rattle.spec.specs.Grammar.Languages.{none-of};
 ghost use Rattle.spec.specs.Reading.Readers.{number-of, run};
 ghost use Rattle.spec.specs.Reading.Dtd.{reserved, check-target, check-pi, parse-pi};
 ghost use Rattle.error.specs.Read.{read};
-ghost use Rattle.names.specs.Names.{dialect};
+ghost use Rattle.classes.specs.Classes.{dialect};
 
 // The target "xml", in any case.
 fn is_reserved(t: &[u8]) -> bool

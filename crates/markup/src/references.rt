@@ -1,12 +1,12 @@
 // Parameter-entity references.
+use classes::Names;
 use cursor::need_name;
 use error::Answer;
-use names::Names;
-use wellformed::at_keyword;
+use search::at_keyword;
 ghost use mathlib.Core.Path.{_≡_};
 ghost use Rattle.spec.specs.Reading.Dtd.{parse-pe-reference};
 ghost use Rattle.error.specs.Read.{read};
-ghost use Rattle.names.specs.Names.{dialect};
+ghost use Rattle.classes.specs.Classes.{dialect};
 
 // parse_pe_reference, [69] PEReference.
 pub fn parse_pe_reference(s: &[u8], at: usize, names: Names) -> Answer

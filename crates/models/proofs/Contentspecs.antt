@@ -10,7 +10,7 @@ use lib.Seq.{drop-drop}
 use Rattle.spec.specs.Grammar.Characters.{space}
 use Rattle.spec.specs.Reading.Readers.{starts, run}
 use Rattle.error.proofs.Laws.{choose-yes, choose-no, refused, ate-only, ate-not}
-use Rattle.wellformed.proofs.Words.{on-yes, on-no, word-fits}
+use Rattle.search.proofs.Words.{on-yes, on-no, word-fits}
 use Rattle.cursor.proofs.Reading.{ate-next, ate-stop}
 use Rattle.error.proofs.Whiles.{whiles, while-first}
 use Rattle.models.proofs.Signs.{sign-ends, some-sign, after-no, after-at, steps}

@@ -22,10 +22,10 @@ use Rattle.error.specs.Read.{read}
 use Rattle.error.specs.declared.Answer.{Answer}
 use Rattle.error.specs.declared.Answer.the-variants.{At, No}
 use Rattle.error.proofs.Laws.{seq-no, seq-at, choose-yes, choose-no, refused}
-use Rattle.wellformed.proofs.Words.{word-no, word-fits}
-use Rattle.names.specs.Names.{dialect}
-use Rattle.names.specs.declared.classes.Names.{Names}
-use Rattle.names.specs.declared.classes.Names.the-variants.{AppendixB}
+use Rattle.search.proofs.Words.{word-no, word-fits}
+use Rattle.classes.specs.Classes.{dialect}
+use Rattle.classes.specs.declared.Names.{Names}
+use Rattle.classes.specs.declared.Names.the-variants.{AppendixB}
 use Rattle.models.specs.Parts.{group-end}
 use Rattle.models.proofs.Signs.{sign-yes, connector-ends, some-sign, steps, after-sign, after-no, after-at}
 use Rattle.error.proofs.Whiles.{unroll, whiles}

@@ -22,7 +22,7 @@ use Rattle.error.specs.declared.Answer.{Answer}
 use Rattle.error.specs.declared.Answer.the-variants.{At, No}
 use Rattle.error.proofs.Laws.{seq-no, seq-at, took-nothing}
 use Rattle.cursor.proofs.Reading.{skip-then, skip-only}
-use Rattle.wellformed.proofs.Words.{on-yes, on-no, word-yes, word-then, word-no, word-not, word-fits}
+use Rattle.search.proofs.Words.{on-yes, on-no, word-yes, word-then, word-no, word-not, word-fits}
 
 pub sign-in : (c : ℕ) (s : List ℕ) (at : ℕ) → at < length s → eqb (getD s at 0) c ≡ starts (c ∷ []) (drop at s)
 unfolding starts

@@ -1,18 +1,18 @@
 // Content models: parse_contentspec, parse_mixed, parse_children, parse_cp and parse_group of dtd.rs (productions 46 to 51).
+use classes::Names;
 use cursor::eat_str;
 use cursor::need_name;
 use cursor::skip_s;
 use error::Answer;
-use names::Names;
+use search::at_keyword;
 use source::byte_at;
-use wellformed::at_keyword;
 ghost use mathlib.Core.Path.{_≡_};
 ghost use mathlib.Core.List.{[], _∷_};
 ghost use lib.ListN.{drop};
 ghost use Rattle.spec.specs.Reading.Readers.{starts};
 ghost use Rattle.spec.specs.Reading.Dtd.{connector, occurs, cp-of, parse-group, parse-children, parse-mixed, parse-contentspec};
 ghost use Rattle.error.specs.Read.{read};
-ghost use Rattle.names.specs.Names.{dialect};
+ghost use Rattle.classes.specs.Classes.{dialect};
 ghost use Rattle.models.specs.Parts.{group-end, mixed-names, mixed-end, model};
 
 // How many groups may be open at one time.

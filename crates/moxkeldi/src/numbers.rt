@@ -12,7 +12,7 @@ ghost use Rattle.spec.specs.Promises.{Checks, ChecksDoctype};
 pub extern "C" fn moxkeldi_check_chars(text: &[u8]) -> u8
     ensures { λ r. ⌜ Checks check-chars Chars (now (text .entry)) r ⌝ }
 {
-    wellformed::check_chars(text)
+    chars::check_chars(text)
 }
 
 #[no_mangle]
@@ -33,7 +33,7 @@ pub extern "C" fn moxkeldi_check_attr_value(text: &[u8]) -> u8
 pub extern "C" fn moxkeldi_check_char_refs(text: &[u8]) -> u8
     ensures { λ r. ⌜ Checks check-char-refs Referred (now (text .entry)) r ⌝ }
 {
-    wellformed::check_char_refs(text)
+    chars::check_char_refs(text)
 }
 
 #[no_mangle]

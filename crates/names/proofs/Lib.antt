@@ -1,4 +1,2 @@
-pub mod RangeLaws
-pub mod ClassLaws
 pub mod PlaceLaws
 pub mod Calls

@@ -22,10 +22,11 @@ use Rattle.source.specs.declared.Point.{Point}
 use Rattle.source.specs.declared.Point.the-variants.{Is, Not}
 use Rattle.source.proofs.Points.{code-at, none-at, point-fits, point-less}
 use Rattle.source.proofs.Decoding.{code-one}
-use Rattle.names.specs.Names.{dialect, ascii-start, ascii-part, AsciiRun, AnyName}
+use Rattle.classes.specs.Classes.{dialect, ascii-start, ascii-part}
+use Rattle.names.specs.Names.{AsciiRun, AnyName}
 use Rattle.names.specs.NamePart.{NamePart}
-use Rattle.names.specs.declared.classes.Names.{Names}
-use Rattle.names.proofs.ClassLaws.{start-low, part-low, sign-low}
+use Rattle.classes.specs.declared.Names.{Names}
+use Rattle.classes.proofs.ClassLaws.{start-low, part-low, sign-low}
 
 -- whether a character of the class q stands at i, by what the code tests
 module _ (q : ℕ → Bool) (s : List ℕ) (i : ℕ) where

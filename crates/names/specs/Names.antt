@@ -1,43 +1,12 @@
--- The name classes that a reader uses, and the parts of them that the code tests first. Assumes nothing.
+-- What the quick passes over names of ASCII give, whatever the edition. Assumes nothing.
 use mathlib.Core.Path.{_≡_}
-use mathlib.Core.Bool.{Bool, _||_}
 use mathlib.Core.List.{List}
 use Prim.Native.Nat.{ℕ, _+_, _<_}
-use lib.Dec.{eqb}
 use lib.ListN.{getD, drop}
-use Rattle.spec.specs.Basics.{within}
-use Rattle.spec.specs.Grammar.Names.{Dialect}
-use Rattle.spec.specs.Grammar.AppendixB.{appendix-B, base-chars, ideographs, in-table}
 use Rattle.spec.specs.Reading.Readers.{number-of, taken}
 use Rattle.spec.specs.Reading.Wellformed.{parts, check-name}
-use Rattle.names.specs.declared.classes.Names.{Names}
-use Rattle.names.specs.declared.classes.Names.the-variants.{AppendixB}
-
-unfoldable pub dialect : Names → Dialect
-dialect AppendixB = appendix-B
-
--- [84] Letter ::= BaseChar | Ideographic
-unfoldable pub letter : ℕ → Bool
-letter c = in-table base-chars c || in-table ideographs c
-
--- letters of Han, Hangul, Greek, Cyrillic and the two kana
-abbrev pub common-letter : ℕ → Bool
-common-letter c =
-    within 0x4E00 0x9FA5 c
-    || within 0xAC00 0xD7A3 c
-    || within 0x38E 0x3A1 c
-    || within 0x3A3 0x3CE c
-    || within 0x40E 0x44F c
-    || within 0x3041 0x3094 c
-    || within 0x30A1 0x30FA c
-
--- the characters below 128 that begin a name: ':', '_', 'A' to 'Z' and 'a' to 'z'
-abbrev pub ascii-start : ℕ → Bool
-ascii-start c = eqb c 0x3A || eqb c 0x5F || within 0x41 0x5A c || within 0x61 0x7A c
-
--- and that go on with it: these, '-', '.' and '0' to '9'
-abbrev pub ascii-part : ℕ → Bool
-ascii-part c = ascii-start c || within 0x2D 0x2E c || within 0x30 0x39 c
+use Rattle.classes.specs.Classes.{dialect}
+use Rattle.classes.specs.declared.Names.{Names}
 
 -- r is a place among the name characters from i on, whatever the edition, and their end where the byte at r is below 128
 pub record AsciiRun (s : List ℕ) (i r : ℕ) : Type 0 where

@@ -1,12 +1,9 @@
 // Names: the part of wellformed.rs that reads them, parse_name and the loop of parse_nmtoken of dtd.rs.
-mod classes;
-mod tables;
-
-pub use classes::Names;
+use classes::Names;
 use classes::ascii_name_char;
 use classes::ascii_name_start;
-pub use classes::is_name_char;
-pub use classes::is_name_start_char;
+use classes::is_name_char;
+use classes::is_name_start_char;
 use error::ACCEPTED;
 use error::BAD_NAME;
 use source::Point;
@@ -21,7 +18,8 @@ ghost use Rattle.spec.specs.Promises.{Checks};
 ghost use Rattle.spec.specs.Grammar.AppendixB.{appendix-B};
 ghost use Rattle.spec.specs.Reading.Readers.{number-of, taken};
 ghost use Rattle.spec.specs.Reading.Wellformed.{parts, name-length, check-name};
-ghost use Rattle.names.specs.Names.{dialect, AsciiRun, AnyName};
+ghost use Rattle.classes.specs.Classes.{dialect};
+ghost use Rattle.names.specs.Names.{AsciiRun, AnyName};
 ghost use Rattle.names.specs.NamePart.{NamePart};
 
 // The name characters below 128 from `at` on: up to their end, or up to a byte that wants decoding. Most names are ASCII, and this

@@ -22,10 +22,10 @@ use Rattle.spec.proofs.Base.Places.{drop-at}
 use Rattle.spec.proofs.Base.Tests.{or-false-left, or-false-right}
 use Rattle.spec.proofs.Division.Clear.{later-later}
 use Rattle.spec.proofs.Division.FrontParts.{nowhere-at, at-inj}
-use Rattle.markup.specs.FirstPlace.{first-place}
-use Rattle.markup.specs.declared.places.Found.{Found}
-use Rattle.markup.specs.declared.places.Found.the-variants.{Here, Nowhere}
-use Rattle.wellformed.specs.Bytes.{away}
+use Rattle.search.specs.FirstPlace.{first-place}
+use Rattle.search.specs.declared.places.Found.{Found}
+use Rattle.search.specs.declared.places.Found.the-variants.{Here, Nowhere}
+use Rattle.search.specs.Runs.{away}
 use Rattle.scan.specs.Answers.{placed, stop}
 use Rattle.scan.proofs.Answering.{was-at, was-nowhere, later-within}
 use Rattle.scan.proofs.Passes.{Pass, marks, from, pass-to, passes}

@@ -24,12 +24,12 @@ use Rattle.spec.proofs.Base.Tests.{and-left}
 use Rattle.spec.proofs.Division.FrontParts.{nowhere-at, at-inj}
 use Rattle.spec.proofs.Prolog.Misc.{begins-sign}
 use Rattle.spec.proofs.Prolog.Turns.{moved, moved-none, next-space, next-comment, next-cut-comment, next-declaration, next-instruction, next-cut-instruction, next-doctype, next-other}
-use Rattle.markup.specs.FirstPlace.{first-place}
-use Rattle.markup.specs.declared.places.Found.{Found}
-use Rattle.markup.specs.declared.places.Found.the-variants.{Here, Nowhere}
-use Rattle.markup.proofs.Finding.{places-found}
+use Rattle.search.specs.FirstPlace.{first-place}
+use Rattle.search.specs.declared.places.Found.{Found}
+use Rattle.search.specs.declared.places.Found.the-variants.{Here, Nowhere}
+use Rattle.search.proofs.Finding.{places-found}
 use Rattle.scan.proofs.Answering.{was-at, was-nowhere}
-use Rattle.wellformed.proofs.Words.{word-fits}
+use Rattle.search.proofs.Words.{word-fits}
 use Rattle.prolog.specs.declared.items.Item.{Item}
 use Rattle.prolog.specs.declared.items.Item.the-variants.{Declaration, Doctype, Other, CutOff, CutDoctype}
 use Rattle.prolog.specs.Answers.{placed-item, item-from, place-from, misc-end, begun}

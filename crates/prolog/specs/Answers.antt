@@ -8,7 +8,7 @@ use Rattle.spec.specs.Reading.Prolog as Rule
 use Rattle.spec.specs.Reading.Prolog.{word-at, doctype-end, is-declaration, declared, docked}
 use Rattle.spec.specs.Reading.Readers.{starts}
 use Rattle.spec.specs.Reading.Scan.{Place, at, later}
-use Rattle.markup.specs.declared.places.Found.{Found}
+use Rattle.search.specs.declared.places.Found.{Found}
 use Rattle.scan.specs.Answers.{placed}
 use Rattle.prolog.specs.declared.items.Item.{Item}
 use Rattle.prolog.specs.declared.items.Item.the-variants.{Declaration, Doctype, Other, CutOff, CutDoctype}

@@ -1,10 +1,10 @@
 // Where a DOCTYPE's text ends.
-use markup::Found;
-use markup::find;
-use markup::find_byte;
 use scan::internal_subset_end;
 use scan::plain_end;
-use wellformed::at_keyword;
+use search::Found;
+use search::at_keyword;
+use search::find;
+use search::find_byte;
 ghost use mathlib.Core.Path.{_≡_};
 ghost use Rattle.spec.specs.Reading.Prolog.{head-end, doctype-end};
 ghost use Rattle.prolog.specs.Answers.{place-from};

@@ -1,10 +1,10 @@
 // What comes next in a prolog.
 use crate::heads::doctype_end;
 use cursor::skip_s;
-use markup::Found;
-use markup::find;
+use search::Found;
+use search::at_keyword;
+use search::find;
 use source::byte_at;
-use wellformed::at_keyword;
 ghost use mathlib.Core.Path.{_≡_};
 ghost use lib.ListN.{drop};
 ghost use Rattle.spec.specs.Grammar.Languages.{one-of};

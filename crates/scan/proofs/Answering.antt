@@ -20,8 +20,8 @@ use Rattle.spec.proofs.Agreement.Accepts.{looked-at}
 use Rattle.spec.proofs.Characters.AppendixB.{appendix-B-ascii}
 use Rattle.spec.proofs.Division.FrontParts.{nowhere-at, at-inj}
 use Rattle.spec.proofs.Division.Promised.{cuts-promise}
-use Rattle.markup.specs.declared.places.Found.{Found}
-use Rattle.markup.specs.declared.places.Found.the-variants.{Here, Nowhere}
+use Rattle.search.specs.declared.places.Found.{Found}
+use Rattle.search.specs.declared.places.Found.the-variants.{Here, Nowhere}
 use Rattle.scan.specs.declared.calls.Scanned.{Scanned}
 use Rattle.scan.specs.declared.calls.Scanned.the-variants.{NotOpened, NotClosed, Closed, Refused}
 use Rattle.scan.specs.Answers.{placed, scanned, admitted-answer, answer-by, scan-answer, Scans}

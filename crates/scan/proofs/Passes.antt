@@ -21,11 +21,11 @@ use Rattle.spec.proofs.Base.Places.{drop-at, drop-end}
 use Rattle.spec.proofs.Base.Tests.{or-cases, or-false-left, or-false-right, eqb-true}
 use Rattle.spec.proofs.Agreement.Words.{starts-split}
 use Rattle.spec.proofs.Division.Clear.{later-zero, later-later, later-suc}
-use Rattle.wellformed.specs.Bytes.{away}
-use Rattle.markup.specs.FirstPlace.{first-place}
-use Rattle.markup.specs.declared.places.Found.{Found}
-use Rattle.markup.specs.declared.places.Found.the-variants.{Here, Nowhere}
-use Rattle.markup.proofs.Finding.{was-nowhere, was-here, here-onward, here-fits}
+use Rattle.search.specs.Runs.{away}
+use Rattle.search.specs.FirstPlace.{first-place}
+use Rattle.search.specs.declared.places.Found.{Found}
+use Rattle.search.specs.declared.places.Found.the-variants.{Here, Nowhere}
+use Rattle.search.proofs.Finding.{was-nowhere, was-here, here-onward, here-fits}
 use Rattle.scan.specs.Answers.{placed, stop}
 use Rattle.scan.proofs.Stops.{stopped}
 

@@ -11,8 +11,8 @@ use lib.Seq.{getD-drop}
 use Rattle.spec.specs.Basics.{pick}
 use Rattle.spec.specs.Grammar.Languages.{one-of}
 use Rattle.spec.specs.Reading.Readers.{run}
-use Rattle.wellformed.specs.Bytes.{away}
-use Rattle.wellformed.proofs.Runs.{run-end, run-stop, away-go}
+use Rattle.search.specs.Runs.{away}
+use Rattle.search.proofs.Runs.{run-end, run-stop, away-go}
 use Rattle.scan.specs.Answers.{stop}
 
 -- one sign of two

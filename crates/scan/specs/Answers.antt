@@ -11,8 +11,8 @@ use Rattle.spec.specs.Reading.Readers.{nothing}
 use Rattle.spec.specs.Reading.Source.{checked}
 use Rattle.spec.specs.Reading.Scan as Rule
 use Rattle.spec.specs.Reading.Scan.{Place, at, nowhere, Scan}
-use Rattle.markup.specs.declared.places.Found.{Found}
-use Rattle.markup.specs.declared.places.Found.the-variants.{Here, Nowhere}
+use Rattle.search.specs.declared.places.Found.{Found}
+use Rattle.search.specs.declared.places.Found.the-variants.{Here, Nowhere}
 use Rattle.scan.specs.declared.calls.Scanned.{Scanned}
 use Rattle.scan.specs.declared.calls.Scanned.the-variants.{NotOpened, NotClosed, Closed, Refused}
 

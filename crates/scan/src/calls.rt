@@ -1,7 +1,7 @@
 // The scan of a front part, and the two numbers in front of it.
 use crate::subset::internal_subset_end;
 use crate::subset::subset_open;
-use markup::Found;
+use search::Found;
 use source::admit;
 ghost use mathlib.Core.Path.{_≡_};
 ghost use Rattle.scan.specs.Answers.{Scans, admitted-answer};

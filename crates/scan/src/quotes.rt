@@ -3,7 +3,7 @@ ghost use mathlib.Core.Path.{_≡_};
 ghost use Prim.Native.Nat.{_+_};
 ghost use lib.ListN.{drop};
 ghost use Rattle.spec.specs.Grammar.Languages.{one-of};
-ghost use Rattle.wellformed.specs.Bytes.{away};
+ghost use Rattle.search.specs.Runs.{away};
 ghost use Rattle.scan.specs.Answers.{stop};
 
 fn is_quote(b: u8) -> bool

@@ -1,10 +1,10 @@
 // Where the internal subset opens and where it ends. Each pass goes from one byte that it looks at to the next, and over a literal to
 // the quote mark that closes it; a literal that is not closed leaves nothing to find.
 use crate::quotes::plain_end;
-use markup::Found;
-use markup::find;
-use markup::find_byte;
-use wellformed::at_keyword;
+use search::Found;
+use search::at_keyword;
+use search::find;
+use search::find_byte;
 ghost use mathlib.Core.Path.{_≡_};
 ghost use lib.ListN.{drop};
 ghost use Rattle.spec.specs.Reading.Scan.{later, subset-open, subset-end};

@@ -23,8 +23,8 @@ use Rattle.error.specs.Read.{read, eaten}
 use Rattle.error.specs.declared.Answer.{Answer}
 use Rattle.error.specs.declared.Answer.the-variants.{At, No}
 use Rattle.error.proofs.Laws.{At≢No, was-ok, was-err, ate}
-use Rattle.names.specs.Names.{dialect}
-use Rattle.names.specs.declared.classes.Names.the-variants.{AppendixB}
+use Rattle.classes.specs.Classes.{dialect}
+use Rattle.classes.specs.declared.Names.the-variants.{AppendixB}
 use Rattle.cursor.proofs.Spaces.{skip-takes}
 use Rattle.stops.specs.Reached.{marked, reach, whole-subset, subset-part}
 use Rattle.stops.specs.declared.places.Reached.{Reached}

@@ -1,5 +1,6 @@
 // The place at which the reading of a DOCTYPE stops. It is read with the functions of check_doctype; what is kept of a refusal is where
 // the refused part begins.
+use classes::Names;
 use cursor::at_end;
 use cursor::eat_str;
 use cursor::need_name;
@@ -9,12 +10,11 @@ use dtd::parse_markup_decl;
 use error::Answer;
 use error::UNEXPECTED;
 use markup::parse_pe_reference;
-use names::Names;
 use source::byte_at;
 ghost use mathlib.Core.Path.{_≡_};
 ghost use Rattle.spec.specs.Grammar.AppendixB.{appendix-B};
 ghost use Rattle.spec.specs.Reading.Stops.{doctype-progress, stop-place};
-ghost use Rattle.names.specs.Names.{dialect};
+ghost use Rattle.classes.specs.Classes.{dialect};
 ghost use Rattle.stops.specs.Reached.{reach, whole-subset, subset-part, rest};
 
 // How far a text is read: up to the place after what was read, or up to the place where reading stops.

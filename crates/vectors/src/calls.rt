@@ -1,7 +1,7 @@
 // The calls that keep no record. (Those that do are in gates.rt.)
 use crate::bytes;
 use crate::reply::Reply;
-use names::Names;
+use classes::Names;
 use scan::Scanned;
 
 // What the call named `word` answers on `text`. A new call is one more `if` here, or in `number` where
@@ -26,7 +26,7 @@ pub fn reply(word: &[u8], text: &[u8]) -> Reply {
 
 fn number(word: &[u8], text: &[u8]) -> Reply {
     if bytes::same(word, b"check_chars") {
-        return Reply::Number(wellformed::check_chars(text));
+        return Reply::Number(chars::check_chars(text));
     }
     if bytes::same(word, b"check_text") {
         return Reply::Number(wellformed::check_text(text));
@@ -35,7 +35,7 @@ fn number(word: &[u8], text: &[u8]) -> Reply {
         return Reply::Number(wellformed::check_attr_value(text));
     }
     if bytes::same(word, b"check_char_refs") {
-        return Reply::Number(wellformed::check_char_refs(text));
+        return Reply::Number(chars::check_char_refs(text));
     }
     if bytes::same(word, b"check_doctype") {
         return Reply::Number(dtd::check_doctype(text));

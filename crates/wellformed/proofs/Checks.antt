@@ -1,63 +1,17 @@
--- The four checks: each is one step again and again to the text's end. Assumes nothing.
-use mathlib.Core.Path.{_≡_, refl, sym}
-use mathlib.Core.Bool.{Bool, true, false, _||_, or-true}
+-- The checks of text and attribute values: each is one step again and again to the text's end. Assumes nothing.
+use mathlib.Core.Path.{_≡_, refl}
 use mathlib.Core.List.{List}
-use Prim.Native.Nat.{ℕ, _+_, _≤_}
-use native.Mathlib.Omega.{arith}
-use lib.Dec.{eqb}
-use lib.ListN.{length, drop}
-use Rattle.spec.specs.Reading.Refusals.{less-than, illegal-char, section-end}
-use Rattle.spec.specs.Reading.Readers.{number-of, refuse, on, throughout, a-byte}
-use Rattle.spec.specs.Reading.Wellformed.{
-  illegal-here,
-  legal-byte,
-  check-chars,
-  char-ref,
-  ref-or-byte,
-  check-char-refs,
-  text-step,
-  check-text,
-  attr-step,
-  check-attr-value,
-}
-use Rattle.spec.proofs.Base.Tests.{eqb-yes, or-false-left}
-use Rattle.spec.proofs.Base.Somes.{some-legal, some-ref-or-byte, some-text, some-attr}
+use Prim.Native.Nat.{ℕ}
+use Rattle.spec.specs.Reading.Refusals.{less-than, section-end}
+use Rattle.spec.specs.Reading.Readers.{refuse, on, throughout}
+use Rattle.spec.specs.Reading.Wellformed.{legal-byte, char-ref, text-step, check-text, attr-step, check-attr-value}
+use Rattle.spec.proofs.Base.Somes.{some-text, some-attr}
 use Rattle.error.specs.Read.{read}
-use Rattle.error.specs.declared.Answer.the-variants.{At}
-use Rattle.error.proofs.Laws.{walk-end}
-use Rattle.wellformed.specs.Bytes.{suspect, special, away}
-use Rattle.wellformed.proofs.Bytes.{calm}
-use Rattle.wellformed.proofs.Runs.{passing}
-use Rattle.wellformed.proofs.Steps.{Plain, plain-byte, plain-wider, plain-choose, plain-on, walk-skip, answered, steps}
+use Rattle.chars.specs.Bytes.{special}
+use Rattle.chars.proofs.Checks.{marked, plain-legal-ref}
+use Rattle.chars.proofs.Steps.{Plain, plain-on, steps}
 
 -- the steps take a byte as it stands that is not special to them
-pub plain-suspect : Plain legal-byte suspect
-unfolding legal-byte
-plain-suspect = plain-choose illegal-here (refuse illegal-char) a-byte suspect calm (plain-byte suspect)
-
-plain-legal : (mark : ℕ) → Plain legal-byte (special mark)
-unfolding special
-plain-legal mark = plain-wider legal-byte suspect (special mark) (λ b e. or-false-left (suspect b) (eqb b 0x26) (or-false-left (suspect b || eqb b 0x26) (eqb b mark) e)) plain-suspect
-
--- a mark is special, and '&' is
-marked : (mark : ℕ) → special mark mark ≡ true
-unfolding special
-marked mark = rw (eqb-yes mark mark refl, or-true)
-
-ampersand : (mark : ℕ) → special mark 0x26 ≡ true
-unfolding special suspect
-ampersand mark = refl
-
-pub plain-chars : Plain legal-byte (special 0xEF)
-plain-chars = plain-legal 0xEF
-
-pub plain-refs : Plain ref-or-byte (special 0x26)
-unfolding ref-or-byte
-plain-refs = plain-on "&#" char-ref a-byte (special 0x26) (ampersand 0x26) (plain-byte (special 0x26))
-
-plain-legal-ref : (mark : ℕ) → Plain (on "&#" char-ref legal-byte) (special mark)
-plain-legal-ref mark = plain-on "&#" char-ref legal-byte (special mark) (ampersand mark) (plain-legal mark)
-
 pub plain-text : Plain text-step (special 0x5D)
 unfolding text-step
 plain-text = plain-on "]]>" (refuse section-end) (on "&#" char-ref legal-byte) (special 0x5D) (marked 0x5D) (plain-legal-ref 0x5D)
@@ -67,14 +21,6 @@ unfolding attr-step
 plain-attr = plain-on "<" (refuse less-than) (on "&#" char-ref legal-byte) (special 0x3C) (marked 0x3C) (plain-legal-ref 0x3C)
 
 -- the checks are their steps to the text's end
-pub chars-from : (s : List ℕ) → read (throughout legal-byte) s 0 ≡ read check-chars s 0
-unfolding check-chars
-chars-from s = refl
-
-pub refs-from : (s : List ℕ) → read (throughout ref-or-byte) s 0 ≡ read check-char-refs s 0
-unfolding check-char-refs
-refs-from s = refl
-
 pub text-from : (s : List ℕ) → read (throughout text-step) s 0 ≡ read check-text s 0
 unfolding check-text
 text-from s = refl
@@ -83,14 +29,5 @@ pub attr-from : (s : List ℕ) → read (throughout attr-step) s 0 ≡ read chec
 unfolding check-attr-value
 attr-from s = refl
 
--- a text without a suspect byte
-pub calm-text : (s : List ℕ) (i : ℕ) (found : Bool) → length s ≤ i → (found ≡ false → i + away suspect (drop i s) ≡ 0 + away suspect (drop 0 s)) → found ≡ false → number-of (check-chars s) ≡ 0
-calm-text s i found h inv f =
-    let w = walk-skip legal-byte suspect s 0 i (read check-chars s 0) some-legal (record { onward = omega arith; ends = inv f }) plain-suspect (chars-from s) in
-    sym (answered check-chars s (At i) (walk-end legal-byte s i (read check-chars s 0) w h))
-
--- what the checks' loops search, and what the pass searches
-pub ruleset walks =
-    (some-legal, some-ref-or-byte, some-text, some-attr, plain-chars, plain-refs, plain-text, plain-attr, chars-from, refs-from, text-from, attr-from, steps)
-
-pub ruleset calm-pass = (calm-text, passing)
+-- what the checks' loops search
+pub ruleset walks = (some-text, some-attr, plain-text, plain-attr, text-from, attr-from, steps)

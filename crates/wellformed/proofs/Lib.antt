@@ -1,8 +1,2 @@
-pub mod Words
-pub mod Runs
-pub mod Steps
-pub mod Bytes
-pub mod Digits
-pub mod CharRefs
 pub mod Checks
 pub mod Agreed

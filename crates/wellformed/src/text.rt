@@ -1,12 +1,12 @@
 // Character data and attribute values: check_text and check_attr_value of wellformed.rs.
-use crate::chars::check_suspect_byte;
-use crate::keywords::at_keyword;
-use crate::numbers::number;
-use crate::references::check_char_ref_at;
-use crate::skip::CALM;
-use crate::skip::is_special;
-use crate::skip::skip_blocks;
+use chars::CALM;
+use chars::check_char_ref_at;
+use chars::check_suspect_byte;
+use chars::is_special;
+use chars::skip_blocks;
 use error::Answer;
+use error::number;
+use search::at_keyword;
 ghost use mathlib.Core.Path.{_≡_};
 ghost use Rattle.spec.specs.Reading.Readers.{number-of};
 ghost use Rattle.spec.specs.Reading.Wellformed.{text-step, check-text, attr-step, check-attr-value};

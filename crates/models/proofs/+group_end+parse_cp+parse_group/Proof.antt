@@ -7,7 +7,7 @@ use Rattle.spec.specs.Reading.Refusals.{unexpected}
 use Rattle.spec.specs.Reading.Readers.{_>>_, word, while}
 use Rattle.spec.specs.Reading.Dtd.{connector, cp-of, parse-group}
 use Rattle.error.specs.Read.{read}
-use Rattle.names.specs.Names.{dialect}
+use Rattle.classes.specs.Classes.{dialect}
 use Rattle.models.specs.Parts.{group-end}
 use Rattle.models.proofs.Groups.{turn, grouping, group-loop}
 use Prim.Native.Nat.{ℕ, _+_, _-_, _*_, _<_}

@@ -4,7 +4,7 @@ use Prim.Native.Nat.{_-_}
 use lib.ListN.{length}
 use Rattle.spec.specs.Reading.Dtd.{after}
 use Rattle.error.specs.Read.{read}
-use Rattle.names.specs.Names.{dialect}
+use Rattle.classes.specs.Classes.{dialect}
 use Rattle.models.specs.Parts.{mixed-names}
 use Rattle.models.proofs.Contentspecs.{mixed-loop}
 use Rattle.models.proofs.mixed_names.Statement.{statement}

@@ -5,8 +5,8 @@ use Prim.Native.Nat.{_+_, _-_}
 use lib.ListN.{length, drop}
 use Rattle.spec.specs.Reading.Readers.{taken}
 use Rattle.spec.specs.Reading.Wellformed.{parts}
-use Rattle.names.specs.Names.{dialect}
-use Rattle.names.specs.declared.classes.Names.{Names}
+use Rattle.classes.specs.Classes.{dialect}
+use Rattle.classes.specs.declared.Names.{Names}
 use Rattle.names.proofs.PlaceLaws.{asciis}
 use Rattle.names.proofs.ascii_end.Statement.{statement}
 use Rattle.names.proofs.ascii_end.Tie as tie

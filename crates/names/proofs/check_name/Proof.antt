@@ -1,6 +1,6 @@
 -- `names::check_name` meets its contract. `dialect` is opened: Appendix B's classes are the code's.
 -- Assumes nothing.
-use Rattle.names.specs.Names.{dialect}
+use Rattle.classes.specs.Classes.{dialect}
 use Rattle.names.proofs.Calls.{calls}
 use Rattle.names.proofs.check_name.Statement.{statement}
 use Rattle.names.proofs.check_name.Tie as tie

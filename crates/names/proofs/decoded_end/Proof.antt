@@ -5,7 +5,7 @@ use Prim.Native.Nat.{_+_, _-_}
 use lib.ListN.{length, drop}
 use Rattle.spec.specs.Reading.Readers.{taken}
 use Rattle.spec.specs.Reading.Wellformed.{parts}
-use Rattle.names.specs.Names.{dialect}
+use Rattle.classes.specs.Classes.{dialect}
 use Rattle.names.proofs.PlaceLaws.{loops}
 use Rattle.names.proofs.decoded_end.Statement.{statement}
 use Rattle.names.proofs.decoded_end.Tie as tie

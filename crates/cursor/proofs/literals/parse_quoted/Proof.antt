@@ -11,7 +11,9 @@ parse-quoted-spec =
     (λ c. search quotes)  -- shared-slice-read-q
     (λ c. search quotes)  -- add-find-byte
     (λ c κs. search quotes)  -- find-byte-requires
-    (λ c. search quotes)  -- add-t13
+    (λ c. search quotes)  -- enum-known-r
+    (λ c. search quotes)  -- enum-told
     (λ c. search quotes)  -- returns-2
+    (λ c. search quotes)  -- add-t
     (λ c. search quotes)  -- returns-3
     (λ c. search quotes))  -- returns-4

@@ -4,7 +4,7 @@ use mathlib.Core.Path.{_≡_}
 use Prim.Native.Nat.{_-_}
 use lib.ListN.{length}
 use Rattle.error.specs.Read.{read}
-use Rattle.names.specs.Names.{dialect}
+use Rattle.classes.specs.Classes.{dialect}
 use Rattle.decls.specs.Pieces.{att-defs}
 use Rattle.decls.proofs.Defining.{defining}
 use Rattle.decls.proofs.attlists.parse_att_defs.Statement.{statement}

@@ -5,7 +5,7 @@ use Prim.Native.Nat.{_-_}
 use lib.ListN.{length}
 use Rattle.spec.specs.Reading.Dtd.{after}
 use Rattle.error.specs.Read.{read}
-use Rattle.names.specs.Names.{dialect}
+use Rattle.classes.specs.Classes.{dialect}
 use Rattle.decls.specs.Items.{item-of, other-items}
 use Rattle.decls.proofs.Bars.{listing}
 use Rattle.decls.proofs.lists.parse_others.Statement.{statement}

@@ -6,7 +6,7 @@ use lib.ListN.{length}
 use Rattle.spec.specs.Reading.Dtd.{parse-internal-subset}
 use Rattle.spec.proofs.Dtd.Items.{items}
 use Rattle.error.specs.Read.{read}
-use Rattle.names.specs.Names.{dialect}
+use Rattle.classes.specs.Classes.{dialect}
 use Rattle.dtd.proofs.Looping.{looping}
 use Rattle.dtd.proofs.subset.parse_internal_subset.Statement.{statement}
 use Rattle.dtd.proofs.subset.parse_internal_subset.Tie as tie

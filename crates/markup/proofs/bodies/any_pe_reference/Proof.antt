@@ -3,7 +3,7 @@ use mathlib.Core.Path.{_≡_}
 use Prim.Native.Nat.{_-_}
 use lib.ListN.{length, drop}
 use Rattle.spec.specs.Reading.Dtd.{has-pe-reference}
-use Rattle.names.specs.Names.{dialect}
+use Rattle.classes.specs.Classes.{dialect}
 use Rattle.markup.proofs.DeclBody.{percents}
 use Rattle.markup.proofs.bodies.any_pe_reference.Statement.{statement}
 use Rattle.markup.proofs.bodies.any_pe_reference.Tie as tie

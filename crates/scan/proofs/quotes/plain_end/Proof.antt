@@ -2,7 +2,7 @@
 use mathlib.Core.Path.{_≡_}
 use Prim.Native.Nat.{_+_, _-_}
 use lib.ListN.{length, drop}
-use Rattle.wellformed.specs.Bytes.{away}
+use Rattle.search.specs.Runs.{away}
 use Rattle.scan.specs.Answers.{stop}
 use Rattle.scan.proofs.Stops.{stops}
 use Rattle.scan.proofs.quotes.plain_end.Statement.{statement}

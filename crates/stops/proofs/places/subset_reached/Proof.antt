@@ -4,7 +4,7 @@ use mathlib.Core.Path.{_≡_}
 use Prim.Native.Nat.{_-_}
 use lib.ListN.{length}
 use Rattle.spec.proofs.Stops.Entries.{entries}
-use Rattle.names.specs.Names.{dialect}
+use Rattle.classes.specs.Classes.{dialect}
 use Rattle.stops.specs.Reached.{reach, whole-subset}
 use Rattle.stops.proofs.Looping.{looping}
 use Rattle.stops.proofs.places.subset_reached.Statement.{statement}

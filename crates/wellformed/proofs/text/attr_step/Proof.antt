@@ -1,7 +1,7 @@
 -- `wellformed::text::attr_step` meets its contract.
 -- Assumes nothing.
 use Rattle.spec.specs.Reading.Wellformed.{attr-step}
-use Rattle.wellformed.proofs.CharRefs.{char-refs}
+use Rattle.chars.proofs.CharRefs.{char-refs}
 use Rattle.wellformed.proofs.text.attr_step.Statement.{statement}
 use Rattle.wellformed.proofs.text.attr_step.Tie as tie
 

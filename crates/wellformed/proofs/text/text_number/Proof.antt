@@ -3,7 +3,7 @@
 use mathlib.Core.Path.{_∙_}
 use borrow.Author.Needs.{needs}
 use Rattle.spec.specs.Reading.Wellformed.{check-text}
-use Rattle.wellformed.proofs.Steps.{answered}
+use Rattle.error.proofs.Laws.{answered}
 use Rattle.wellformed.proofs.text.text_number.Statement.{statement}
 use Rattle.wellformed.proofs.text.text_number.Tie as tie
 

@@ -1,0 +1,18 @@
+-- `chars::chars::chars_number` meets its contract.
+-- Assumes nothing.
+use mathlib.Core.Path.{sym, _∙_}
+use borrow.Author.Needs.{needs}
+use Rattle.spec.specs.Reading.Wellformed.{check-chars}
+use Rattle.error.proofs.Laws.{answered}
+use Rattle.chars.proofs.chars.chars_number.Statement.{statement}
+use Rattle.chars.proofs.chars.chars_number.Tie as tie
+
+pub chars-number-spec : {M : Type 1} → statement M
+chars-number-spec =
+    tie.close
+    (tie.spec
+    (λ c κs. search needs)  -- any-suspect-requires
+    (λ c κs. search needs)  -- walk-chars-requires
+    (λ c κs. search needs)  -- number-requires
+    (λ c. c .number .ensures ∙ answered check-chars _ _ (c .before .walk-chars .ensures))  -- returns
+    (λ c. sym (c .before .any-suspect .ensures (c .if1 .left))))  -- returns-2

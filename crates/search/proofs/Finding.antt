@@ -1,0 +1,191 @@
+-- Laws of the first place of a word. Assumes nothing.
+use mathlib.Core.Path.{_≡_, refl, sym, ap, _∙_}
+use mathlib.Core.Bool.{Bool, true, false, _&&_, _||_, not, true≢false}
+use mathlib.Core.List.{List, [], _∷_, _++_}
+use Prim.Native.Nat.{ℕ, suc, _+_, _-_, _^_, _<_, _≤_}
+use native.Mathlib.Nat.{add-zero}
+use native.Mathlib.Omega.{arith}
+use borrow.Author.Needs.{needs}
+use borrow.Author.Tests.{eq-eqb, ne-eqb}
+use mir.Syntax.{w64}
+use mir.Val.{Fits}
+use lib.Dec.{eqb}
+use lib.ListN.{length, getD, take, drop, length-append, length-drop}
+use lib.Seq.{length-take-le, drop-drop}
+use Rattle.spec.specs.Basics.{pick}
+use Rattle.spec.specs.Reading.Readers.{run, starts, contains, before}
+use Rattle.spec.proofs.Agreement.Words.{found, before-le}
+use Rattle.spec.proofs.Base.Places.{drop-at, drop-end}
+use Rattle.search.specs.Runs.{away, Skipped}
+use Rattle.search.specs.FirstPlace.{first-place, only}
+use Rattle.search.specs.declared.places.Found.{Found}
+use Rattle.search.specs.declared.places.Found.the-variants.{Here, Nowhere}
+
+-- a word stands only where something is left
+contains-some : (kw w : List ℕ) → contains kw w ≡ true → 0 < length w
+unfolding contains
+contains-some kw [] e = absurd (true≢false (sym e))
+contains-some kw (b ∷ w) e = omega arith
+
+-- and it lies within it
+pub word-within : (kw w : List ℕ) → contains kw w ≡ true → before kw w + length kw ≤ length w
+word-within kw w c =
+    let (v, f) = found kw w c in
+    let k : ℕ = before kw w in
+    let l : length (take k w) ≡ k = length-take-le k w (before-le kw w) in
+    let m : length w ≡ length (take k w) + (length kw + length v) = ap length f ∙ length-append (take k w) (kw ++ v) ∙ ap (λ (x : ℕ). length (take k w) + x) (length-append kw v) in
+    omega arith
+
+-- the first place in w, where i is the place of w
+abbrev first-in : List ℕ → List ℕ → ℕ → Found
+first-in kw w i = pick (contains kw w) (Here (i + before kw w)) Nowhere
+
+first-step : (kw : List ℕ) (b : ℕ) (w : List ℕ) (i : ℕ) → starts kw (b ∷ w) ≡ false → first-in kw (b ∷ w) i ≡ first-in kw w (i + 1)
+unfolding contains before
+first-step kw b w i e = rw e (go (contains kw w))
+  where
+    go : (c : Bool) → pick c (Here (i + suc (before kw w))) Nowhere ≡ pick c (Here (i + 1 + before kw w)) Nowhere
+    go true = ap Here (let z : i + suc (before kw w) ≡ i + 1 + before kw w = omega arith in z)
+    go false = refl
+
+-- bytes that a word does not begin with do not hold its first place
+first-run : (a : ℕ) (kw w : List ℕ) (i : ℕ) → first-in (a ∷ kw) w i ≡ first-in (a ∷ kw) (drop (away (only a) w) w) (i + away (only a) w)
+unfolding away run
+first-run a kw [] i = unfold contains in refl
+first-run a kw (b ∷ w) i = go (eqb b a) refl (run (λ c. not (eqb c a)) w) (first-run a kw w (i + 1))
+  where
+    go : (t : Bool) → eqb b a ≡ t → (n : ℕ) → first-in (a ∷ kw) w (i + 1) ≡ first-in (a ∷ kw) (drop n w) (i + 1 + n)
+        → first-in (a ∷ kw) (b ∷ w) i ≡ first-in (a ∷ kw) (drop (pick (not t) (suc n) 0) (b ∷ w)) (i + pick (not t) (suc n) 0)
+    go true e n ih = ap (first-in (a ∷ kw) (b ∷ w)) (let z : i ≡ i + 0 = omega arith in z)
+    go false e n ih = first-step (a ∷ kw) b w i (unfold starts in rw e) ∙ ih ∙ ap (first-in (a ∷ kw) (drop n w)) (let z : i + 1 + n ≡ i + suc n = omega arith in z)
+
+-- so a search may pass some of them
+first-far : (a : ℕ) (kw s : List ℕ) (i : ℕ) → first-place (a ∷ kw) s i ≡ first-place (a ∷ kw) s (i + away (only a) (drop i s))
+unfolding first-place
+first-far a kw s i = first-run a kw (drop i s) i ∙ ap (λ (w : List ℕ). first-in (a ∷ kw) w (i + away (only a) (drop i s))) (drop-drop (away (only a) (drop i s)) i s)
+
+pub byte-far : (a : ℕ) (s : List ℕ) (i r : ℕ) → Skipped (only a) s i r → first-place (a ∷ []) s r ≡ first-place (a ∷ []) s i
+byte-far a s i r k = first-far a [] s r ∙ ap (first-place (a ∷ []) s) (k .ends) ∙ sym (first-far a [] s i)
+
+-- where a byte first stands, a word first stands that begins with it, or further on
+byte-first : (a : ℕ) (w : List ℕ) → before (a ∷ []) w ≡ away (only a) w
+unfolding before starts away run
+byte-first a [] = refl
+byte-first a (b ∷ w) = go (eqb b a) (byte-first a w)
+  where
+    go : (t : Bool) → before (a ∷ []) w ≡ run (λ c. not (eqb c a)) w → pick (t && true) 0 (suc (before (a ∷ []) w)) ≡ pick (not t) (suc (run (λ c. not (eqb c a)) w)) 0
+    go true ih = refl
+    go false ih = ap suc ih
+
+byte-nowhere : (a : ℕ) (kw w : List ℕ) → contains (a ∷ []) w ≡ false → contains (a ∷ kw) w ≡ false
+unfolding contains starts
+byte-nowhere a kw [] e = refl
+byte-nowhere a kw (b ∷ w) e = go (eqb b a) e (byte-nowhere a kw w)
+  where
+    go : (t : Bool) → (t && true) || contains (a ∷ []) w ≡ false → (contains (a ∷ []) w ≡ false → contains (a ∷ kw) w ≡ false) → (t && starts kw w) || contains (a ∷ kw) w ≡ false
+    go true e ih = absurd (true≢false e)
+    go false e ih = ih e
+
+-- only the empty word stands everywhere
+some-byte : (kw w : List ℕ) → starts kw w ≡ false → (k : List ℕ) × (kw ≡ getD kw 0 0 ∷ k)
+unfolding starts
+some-byte [] w e = absurd (true≢false e)
+some-byte (c ∷ kw) w e = (kw, refl)
+
+-- so a word that does not stand at a place has a first byte
+pub first-within : (kw w : List ℕ) (t : Bool) → t ≡ starts kw w → t ≡ false → 0 < length kw
+first-within kw w t e f = let (k, l) = some-byte kw w (sym e ∙ f) in let z = ap length l in omega arith
+
+-- The loop of find. The invariant: the first place from i on is the first place W.
+module _ (kw s : List ℕ) (i : ℕ) (W : Found) (inv : first-place kw s i ≡ W) where
+  pub find-end : length s ≤ i → Nowhere ≡ W
+  unfolding first-place contains
+  find-end h = rw (drop-end s i h) at inv
+
+  module _ (h : i < length s) where
+    module _ (t : Bool) (e : t ≡ starts kw (drop i s)) where
+      front : (b : Bool) → t ≡ b → starts kw (getD s i 0 ∷ drop (i + 1) s) ≡ b
+      front b f = ap (starts kw) (sym (drop-at s i h)) ∙ sym e ∙ f
+
+      pub find-here : t ≡ true → Here i ≡ W
+      unfolding first-place contains before
+      find-here f = (rw add-zero) ∙ (rw (drop-at s i h, front true f) at inv)
+
+      pub find-not : t ≡ false → first-place kw s (i + 1) ≡ W
+      unfolding first-place
+      find-not f = sym (first-step kw (getD s i 0) (drop (i + 1) s) i (front false f)) ∙ (rw (drop-at s i h) at inv)
+
+-- The loop of find_byte, where the word is one byte.
+module _ (q : ℕ) (s : List ℕ) (i : ℕ) (W : Found) (inv : first-place (q ∷ []) s i ≡ W) (h : i < length s) where
+  pub byte-here : getD s i 0 ≡ q → Here i ≡ W
+  byte-here e = find-here (q ∷ []) s i W inv h true (unfold starts in rw (drop-at s i h, eq-eqb (getD s i 0) q e)) refl
+
+  pub byte-not : (getD s i 0 ≡ q → ⊥) → first-place (q ∷ []) s (i + 1) ≡ W
+  byte-not n = find-not (q ∷ []) s i W inv h false (unfold starts in rw (drop-at s i h, ne-eqb (getD s i 0) q n)) refl
+
+-- What find answered: r.
+module _ (kw s : List ℕ) (at : ℕ) (r : Found) (a : r ≡ first-place kw s at) where
+  pub was-nowhere : r ≡ Nowhere → contains kw (drop at s) ≡ false
+  unfolding first-place
+  was-nowhere b = go (contains kw (drop at s)) (sym b ∙ a)
+    where
+      go : (t : Bool) → Nowhere ≡ pick t (Here (at + before kw (drop at s))) Nowhere → t ≡ false
+      go true e = let z : _≡_ {A = ℕ} 0 1 = cc in absurd (omega arith)
+      go false e = refl
+
+  module _ (j : ℕ) (b : r ≡ Here j) where
+    pub was-here : (contains kw (drop at s) ≡ true) × (j ≡ at + before kw (drop at s))
+    unfolding first-place
+    was-here = go (contains kw (drop at s)) (sym b ∙ a)
+      where
+        go : (t : Bool) → Here j ≡ pick t (Here (at + before kw (drop at s))) Nowhere → (t ≡ true) × (j ≡ at + before kw (drop at s))
+        go true e = (refl, cc)
+        go false e = let z : _≡_ {A = ℕ} 0 1 = cc in absurd (omega arith)
+
+    -- the word lies within the text, at `at` or further on
+    lies : (at ≤ j) × (j + length kw ≤ length s)
+    lies = let (c, e) = was-here in (omega arith, omega (arith, length-drop at s, contains-some kw (drop at s) c, word-within kw (drop at s) c))
+
+    pub here-onward : at ≤ j
+    here-onward = lies .0
+
+    pub here-within : j ≤ length s
+    here-within = omega (arith, lies)
+
+    pub here-fits : (n : ℕ) → n ≡ length kw → length s < 2 ^ 64 → Fits w64 (j + n)
+    here-fits n l h = omega (arith, lies)
+
+-- The word does not stand at i, as t says, and r is where its first byte stands next.
+module _ (kw s : List ℕ) (i : ℕ) (W : Found) (inv : first-place kw s i ≡ W) (h : i < length s) (t : Bool) (e : t ≡ starts kw (drop i s)) (f : t ≡ false) (a : ℕ) (g : a ≡ getD kw 0 0) (r : Found) (b : r ≡ first-place (a ∷ []) s (i + 1)) where
+  on : first-place kw s (i + 1) ≡ W
+  on = find-not kw s i W inv h t e f
+
+  spelled : (k : List ℕ) × (kw ≡ a ∷ k)
+  spelled = let (k, l) = some-byte kw (drop i s) (sym e ∙ f) in (k, l ∙ ap (λ (x : ℕ). x ∷ k) (sym g))
+
+  pub find-none : r ≡ Nowhere → Nowhere ≡ W
+  unfolding first-place
+  find-none d = let (k, l) = spelled in rw (l, byte-nowhere a k (drop (i + 1) s) (was-nowhere (a ∷ []) s (i + 1) r b d)) at on
+
+  pub find-next : (j : ℕ) → r ≡ Here j → first-place kw s j ≡ W
+  find-next j d =
+      let (k, l) = spelled in
+      let (c, m) = was-here (a ∷ []) s (i + 1) r b j d in
+      ap (λ (x : List ℕ). first-place x s j) l ∙ ap (first-place (a ∷ k) s) (m ∙ ap (λ (x : ℕ). i + 1 + x) (byte-first a (drop (i + 1) s)))
+      ∙ sym (first-far a k s (i + 1)) ∙ ap (λ (x : List ℕ). first-place x s (i + 1)) (sym l) ∙ on
+
+pub next-less : (a : ℕ) (s : List ℕ) (i j : ℕ) (r : Found) → i < length s → r ≡ first-place (a ∷ []) s (i + 1) → r ≡ Here j → length s - j < length s - i
+next-less a s i j r h b d = omega (arith, here-onward (a ∷ []) s (i + 1) r b j d)
+
+-- whether a word stands anywhere
+module _ (kw w : List ℕ) (r : Found) (a : r ≡ first-place kw w 0) where
+  pub has-yes : (j : ℕ) → r ≡ Here j → true ≡ contains kw w
+  has-yes j b = sym (was-here kw w 0 r a j b .0)
+
+  pub has-no : r ≡ Nowhere → false ≡ contains kw w
+  has-no b = sym (was-nowhere kw w 0 r a b)
+
+-- what find and has search, and what code that finds a word searches of its place
+pub ruleset finding = (first-within, find-end, find-here, find-not, find-none, find-next, next-less, byte-far, byte-here, byte-not, has-yes, has-no, needs)
+
+pub ruleset places-found = (here-onward, here-within, here-fits)
