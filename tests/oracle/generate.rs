@@ -225,13 +225,7 @@ impl Generator<'_> {
             ),
             _ => self.literal(),
         };
-        format!(
-            "<!ENTITY{}{percent}{}{}{value}{}>",
-            self.space(),
-            self.name(),
-            self.space(),
-            self.maybe_space()
-        )
+        self.named("ENTITY", &percent, &value)
     }
 
     fn notation(&mut self) -> String {
@@ -240,8 +234,13 @@ impl Generator<'_> {
         } else {
             format!("PUBLIC{}{}", self.space(), self.public())
         };
+        self.named("NOTATION", "", &value)
+    }
+
+    /// A declaration of a name: its keyword, what may stand before the name, and what follows it.
+    fn named(&mut self, keyword: &str, before: &str, value: &str) -> String {
         format!(
-            "<!NOTATION{}{}{}{value}{}>",
+            "<!{keyword}{}{before}{}{}{value}{}>",
             self.space(),
             self.name(),
             self.space(),

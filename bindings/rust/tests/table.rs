@@ -137,23 +137,6 @@ fn names_without_a_colon() {
 }
 
 #[test]
-fn not_utf8_comes_second() {
-    for check in [
-        check_chars,
-        check_text,
-        check_attr_value,
-        check_char_refs,
-        check_name,
-        check_doctype,
-        check_declaration,
-        is_utf8,
-    ] {
-        assert_eq!(check(b"\x01\xff"), Err(Refusal::NotUtf8));
-    }
-    assert_eq!(scan(b"[\xff]"), Err(Refusal::NotUtf8));
-}
-
-#[test]
 fn empty_slices() {
     let empty: &[u8] = &[];
     assert_eq!(check_chars(empty), Ok(()));

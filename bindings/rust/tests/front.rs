@@ -1,19 +1,21 @@
-//! The limit of 1,048,576 bytes, which every call has.
+//! The two numbers that stand in front of every call: too long, and not UTF-8.
 use moxkeldi::*;
+
+const CHECKS: [fn(&[u8]) -> Result<(), Refusal>; 8] = [
+    check_chars,
+    check_text,
+    check_attr_value,
+    check_char_refs,
+    check_name,
+    check_doctype,
+    is_utf8,
+    check_declaration,
+];
 
 #[test]
 fn one_byte_more_is_too_long() {
     let mut text = vec![b'a'; LIMIT];
-    let checks = [
-        check_chars,
-        check_text,
-        check_attr_value,
-        check_char_refs,
-        check_name,
-        check_doctype,
-        is_utf8,
-    ];
-    for check in checks {
+    for check in &CHECKS[..7] {
         assert_eq!(check(&text), Ok(()));
     }
     assert_eq!(check_declaration(&text), Err(Refusal::Unexpected));
@@ -21,10 +23,7 @@ fn one_byte_more_is_too_long() {
     assert_eq!(scan(&text), Ok(Scan::NotOpened));
 
     text.push(b'a');
-    for check in checks
-        .into_iter()
-        .chain([check_declaration as fn(&[u8]) -> _])
-    {
+    for check in CHECKS {
         assert_eq!(check(&text), Err(Refusal::TooLong));
     }
     assert_eq!(is_ncname(&text), Err(Refusal::TooLong));
@@ -41,6 +40,14 @@ fn too_long_comes_before_not_utf8() {
     let text = vec![0xff; LIMIT + 1];
     assert_eq!(is_utf8(&text), Err(Refusal::TooLong));
     assert_eq!(is_utf8(&text[1..]), Err(Refusal::NotUtf8));
+}
+
+#[test]
+fn not_utf8_comes_second() {
+    for check in CHECKS {
+        assert_eq!(check(b"\x01\xff"), Err(Refusal::NotUtf8));
+    }
+    assert_eq!(scan(b"[\xff]"), Err(Refusal::NotUtf8));
 }
 
 #[test]
