@@ -11,7 +11,6 @@ mod usage;
 mod words;
 
 use file::Filled;
-use libc::STDOUT_FILENO;
 use options::Options;
 use options::Word;
 
@@ -78,26 +77,39 @@ fn argument(
 ) -> Progress {
     let n = os::arg(i, word);
     if os::errno() != 0 {
-        os::fail(b"a file name");
-        return Progress {
-            status: FAILED,
-            ended: before.ended,
-        };
+        return with(before, unnamed());
     }
-    let name = bytes::front(word, n);
+    named(before, bytes::front(word, n), verbose, held, out)
+}
+
+// An argument that cannot be had is a failure like a file that was not read.
+fn unnamed() -> u8 {
+    os::fail(b"a file name");
+    FAILED
+}
+
+fn named(
+    before: Progress,
+    name: &[u8],
+    verbose: bool,
+    held: &mut [u8],
+    out: &mut [u8],
+) -> Progress {
     match options::kind(name, before.ended) {
-        Word::File => {
-            let status = check_file(name, verbose, held, out);
-            Progress {
-                status: worse(before.status, status),
-                ended: before.ended,
-            }
-        }
+        Word::File => with(before, check_file(name, verbose, held, out)),
         Word::End => Progress {
             status: before.status,
             ended: true,
         },
         Word::Verbose | Word::Help | Word::Numbers | Word::Unknown => before,
+    }
+}
+
+// What is carried on after an argument that asks for this status.
+fn with(before: Progress, status: u8) -> Progress {
+    Progress {
+        status: worse(before.status, status),
+        ended: before.ended,
     }
 }
 
@@ -122,22 +134,26 @@ fn check_all(verbose: bool, word: &mut [u8], held: &mut [u8], out: &mut [u8]) ->
 // Does what the options ask for, and answers the status.
 fn run(options: Options, word: &mut [u8], held: &mut [u8], out: &mut [u8]) -> u8 {
     if options.unknown != 0 {
-        let n = os::arg(options.unknown, word);
-        usage::unknown(bytes::front(word, n));
-        return FAILED;
+        return unknown(options.unknown, word);
     }
     if options.help {
         return written(usage::help());
     }
     if options.numbers {
-        let n = words::table(out);
-        return written(io::write_all(STDOUT_FILENO, bytes::front(out, n)));
+        return written(words::table());
     }
     if options.file == 0 {
         usage::wrong();
         return FAILED;
     }
     check_all(options.verbose, word, held, out)
+}
+
+// Says which option is not known: argument `i`.
+fn unknown(i: usize, word: &mut [u8]) -> u8 {
+    let n = os::arg(i, word);
+    usage::unknown(bytes::front(word, n));
+    FAILED
 }
 
 fn written(is: bool) -> u8 {

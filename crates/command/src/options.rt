@@ -35,8 +35,8 @@ pub fn kind(word: &[u8], ended: bool) -> Word {
     if word.len() == 1 {
         return Word::File;
     }
-    if bytes::same(word, b"-v") {
-        return Word::Verbose;
+    if word.len() == 2 {
+        return short(source::byte_at(word, 1));
     }
     if bytes::same(word, b"--help") {
         return Word::Help;
@@ -44,10 +44,16 @@ pub fn kind(word: &[u8], ended: bool) -> Word {
     if bytes::same(word, b"--numbers") {
         return Word::Numbers;
     }
-    if bytes::same(word, b"--") {
-        return Word::End;
-    }
     Word::Unknown
+}
+
+// The option of a hyphen and this sign.
+fn short(sign: u8) -> Word {
+    match sign {
+        b'v' => Word::Verbose,
+        b'-' => Word::End,
+        _ => Word::Unknown,
+    }
 }
 
 // Reads all arguments, each into `word`.

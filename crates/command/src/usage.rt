@@ -20,20 +20,23 @@ pub fn unknown(word: &[u8]) {
 
 // Answers whether it could be written.
 pub fn help() -> bool {
-    say(b"usage: moxkeldi [-v] FILE...\n\n");
-    say(b"Checks the XML declaration and the DOCTYPE of each file, and says on a line:\n");
-    say(b"  FILE: accepted\n");
-    say(b"  FILE: accepted, no DOCTYPE\n");
-    say(b"  FILE:LINE:COLUMN: refused with NUMBER: the number in words\n");
-    say(b"The column counts characters. A FILE of - is standard input.\n\n");
-    say(b"  -v         also show what is refused\n");
-    say(b"  --numbers  print the numbers and their words\n");
-    say(b"  --help     print this\n");
-    say(b"  --         only files follow\n\n");
-    say(b"Exit status: 0 all accepted; 1 one or more refused; 2 a file could not be read,\n");
-    say(b"or wrong usage.\n")
-}
+    io::write_all(
+        STDOUT_FILENO,
+        b"usage: moxkeldi [-v] FILE...
 
-fn say(text: &[u8]) -> bool {
-    io::write_all(STDOUT_FILENO, text)
+Checks the XML declaration and the DOCTYPE of each file, and says on a line:
+  FILE: accepted
+  FILE: accepted, no DOCTYPE
+  FILE:LINE:COLUMN: refused with NUMBER: the number in words
+The column counts characters. A FILE of - is standard input.
+
+  -v         also show what is refused
+  --numbers  print the numbers and their words
+  --help     print this
+  --         only files follow
+
+Exit status: 0 all accepted; 1 one or more refused; 2 a file could not be read,
+or wrong usage.
+",
+    )
 }
