@@ -4,8 +4,8 @@ use crate::reply::Reply;
 use classes::Names;
 use scan::Scanned;
 
-// What the call named `word` answers on `text`. A new call is one more `if` here, or in `number` where
-// it answers by a number alone.
+// What the call named `word` answers on `text`. A new call is one more `if` here, or in `number` or
+// `character_number` where it answers by a number alone.
 pub fn reply(word: &[u8], text: &[u8]) -> Reply {
     if bytes::same(word, b"utf8") {
         let verdict = source::is_utf8(text);
@@ -25,6 +25,20 @@ pub fn reply(word: &[u8], text: &[u8]) -> Reply {
 }
 
 fn number(word: &[u8], text: &[u8]) -> Reply {
+    if bytes::same(word, b"check_doctype") {
+        return Reply::Number(dtd::check_doctype(text));
+    }
+    if bytes::same(word, b"check_name") {
+        return Reply::Number(names::check_name(text));
+    }
+    if bytes::same(word, b"check_declaration") {
+        return Reply::Number(checks::check_declaration(text));
+    }
+    character_number(word, text)
+}
+
+// The calls that look at characters and references.
+fn character_number(word: &[u8], text: &[u8]) -> Reply {
     if bytes::same(word, b"check_chars") {
         return Reply::Number(chars::check_chars(text));
     }
@@ -36,15 +50,6 @@ fn number(word: &[u8], text: &[u8]) -> Reply {
     }
     if bytes::same(word, b"check_char_refs") {
         return Reply::Number(chars::check_char_refs(text));
-    }
-    if bytes::same(word, b"check_doctype") {
-        return Reply::Number(dtd::check_doctype(text));
-    }
-    if bytes::same(word, b"check_name") {
-        return Reply::Number(names::check_name(text));
-    }
-    if bytes::same(word, b"check_declaration") {
-        return Reply::Number(checks::check_declaration(text));
     }
     Reply::Unknown
 }

@@ -1,16 +1,18 @@
 // The gate's lines. Each works on the record that the line before left, so the record goes from line to line.
 use crate::bytes;
 use crate::calls;
+use crate::reply;
 use crate::reply::Reply;
 use crate::text;
 use gate::Declared;
 use gate::Docked;
 use gate::Gate;
 
-// What a line's call answers, and the record after it.
+// What a line's call answers, and the record after it, which some answers show.
 pub struct Stepped {
     pub gate: Gate,
     pub reply: Reply,
+    pub shown: bool,
 }
 
 pub fn fresh() -> Gate {
@@ -26,11 +28,7 @@ pub fn fresh() -> Gate {
 // record that the next lines begin with.
 pub fn step(gate: Gate, word: &[u8], wanted: &[u8], text: &[u8]) -> Stepped {
     if bytes::same(word, b"gate_set") {
-        let set = record(wanted);
-        return Stepped {
-            gate: set,
-            reply: Reply::Set(set),
-        };
+        return showing(record(wanted), Reply::Word(b'-'));
     }
     if bytes::same(word, b"decl") {
         return declared(gate::decl_step(gate, text));
@@ -40,39 +38,81 @@ pub fn step(gate: Gate, word: &[u8], wanted: &[u8], text: &[u8]) -> Stepped {
         return docked(gate::doctype_step(gate, phase, text));
     }
     let reply = calls::reply(word, text);
-    Stepped { gate, reply }
+    Stepped {
+        gate,
+        reply,
+        shown: false,
+    }
 }
 
 // The phase that the last letter of `doctype0`, `doctype1` or `doctype2` gives, or 3 for another call.
 fn phase_of(word: &[u8]) -> u8 {
-    if bytes::same(word, b"doctype0") {
-        return 0;
+    if word.len() != 8 {
+        return 3;
     }
-    if bytes::same(word, b"doctype1") {
-        return 1;
-    }
-    if bytes::same(word, b"doctype2") {
-        return 2;
+    if bytes::same(bytes::front(word, 7), b"doctype") {
+        return match source::byte_at(word, 7) {
+            b'0' => 0,
+            b'1' => 1,
+            b'2' => 2,
+            _ => 3,
+        };
     }
     3
 }
 
+// An answer that shows the record.
+fn showing(gate: Gate, reply: Reply) -> Stepped {
+    Stepped {
+        gate,
+        reply,
+        shown: true,
+    }
+}
+
 fn declared(d: Declared) -> Stepped {
     let after = d.gate;
-    Stepped {
-        gate: after,
-        reply: Reply::Gated(d.number, after),
-    }
+    showing(after, Reply::Number(d.number))
 }
 
 fn docked(d: Docked) -> Stepped {
     let after = d.gate;
     let said = d.reply;
-    let reply = match said {
-        gate::Reply::Open => Reply::Open(after),
-        gate::Reply::Number(number) => Reply::Gated(number, after),
-    };
-    Stepped { gate: after, reply }
+    match said {
+        gate::Reply::Open => showing(after, Reply::Open),
+        gate::Reply::Number(number) => showing(after, Reply::Number(number)),
+    }
+}
+
+// Writes the answer at the start of `out`, and answers how many bytes it takes: none for a call that
+// is not known.
+pub fn spell(step: Stepped, out: &mut [u8]) -> usize {
+    let reply = step.reply;
+    let at = reply::spell(reply, out);
+    if step.shown {
+        let gate = step.gate;
+        return show(gate, out, at);
+    }
+    at
+}
+
+// Writes the record behind what stands before `at`, as `/1/0/0/256`.
+fn show(gate: Gate, out: &mut [u8], at: usize) -> usize {
+    let flags = [
+        b'/',
+        bit(gate.started),
+        b'/',
+        bit(gate.seen),
+        b'/',
+        bit(gate.open),
+        b'/',
+    ];
+    let at = bytes::append(out, at, &flags);
+    bytes::decimal(out, at, gate.refused as u64)
+}
+
+fn bit(is: bool) -> u8 {
+    if is { b'1' } else { b'0' }
 }
 
 // The record that `-/1/0/0/256` writes. A column of another form gives a record that is written

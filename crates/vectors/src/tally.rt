@@ -2,11 +2,10 @@
 use crate::bytes;
 use crate::bytes::Word;
 use crate::gates;
+use crate::gates::Stepped;
 use crate::line;
 use crate::line::Kind;
 use crate::line::Line;
-use crate::reply;
-use crate::reply::Reply;
 use crate::report;
 use crate::text;
 use gate::Gate;
@@ -63,8 +62,7 @@ pub fn close(tally: Tally, line: Line, call: &Word, answer: &Word, out: &mut [u8
 fn answered(tally: Tally, word: &[u8], wanted: &[u8], text: &[u8]) -> Tally {
     let before = tally.gate;
     let step = gates::step(before, word, wanted, text);
-    let reply = step.reply;
-    let outcome = compare(tally.lines, word, wanted, reply);
+    let outcome = compare(tally.lines, word, wanted, step);
     let after = step.gate;
     counted(with_gate(tally, after), outcome)
 }
@@ -82,10 +80,10 @@ fn with_gate(tally: Tally, gate: Gate) -> Tally {
 
 // Compares a call's answer with the one wanted. No answer is empty, so an empty one says that the call
 // is not known.
-fn compare(line: u64, word: &[u8], wanted: &[u8], reply: Reply) -> Outcome {
+fn compare(line: u64, word: &[u8], wanted: &[u8], step: Stepped) -> Outcome {
     let mut space = [0u8; 32];
     let out: &mut [u8] = &mut space;
-    let n = reply::spell(reply, out);
+    let n = gates::spell(step, out);
     if n == 0 {
         return Outcome::Unknown;
     }
