@@ -1,6 +1,6 @@
 -- Laws of decoding: one code point, and a text from its front. Assumes nothing.
 use mathlib.Core.Path.{_≡_, refl, sym, ap, _∙_}
-use mathlib.Core.Bool.{true, false}
+use mathlib.Core.Bool.{Bool, true, false}
 use mathlib.Core.List.{List}
 use Prim.Native.Nat.{ℕ, _+_, _*_, _%_, _<_, _≤_}
 use native.Mathlib.Omega.{arith}
@@ -18,23 +18,25 @@ use Rattle.source.specs.declared.Point.{Point}
 use Rattle.source.specs.declared.Point.the-variants.{Is, Not}
 use Rattle.source.proofs.Points.{code-at, none-at, point-fits, point-less}
 
--- the code's four forms, by the tests in order
+-- the code's four forms, by the tests in order; t, u and v are what the tests say
 module _ (a b c d : ℕ) where
   pub one-is : a < 0x80 → Is a 1 ≡ seen (decode4 a b c d)
   one-is h = ap seen (sym (decode4-1 a b c d h))
 
-  pub two-is : 0x80 ≤ a → two a b ≡ true → Is (a % 32 * 64 + b % 64) 2 ≡ seen (decode4 a b c d)
-  two-is h e = ap seen (sym (decode4-2 a b c d h e))
+module _ (a b c d : ℕ) (h : 0x80 ≤ a) (t : Bool) (et : t ≡ two a b) where
+  pub two-is : t ≡ true → Is (a % 32 * 64 + b % 64) 2 ≡ seen (decode4 a b c d)
+  two-is e = ap seen (sym (decode4-2 a b c d h (sym et ∙ e)))
 
-  pub three-is : 0x80 ≤ a → two a b ≡ false → three a b c ≡ true → Is (a % 16 * 4096 + b % 64 * 64 + c % 64) 3 ≡ seen (decode4 a b c d)
-  three-is h e f = ap seen (sym (decode4-3 a b c d h e f))
+  module _ (e : t ≡ false) (u : Bool) (eu : u ≡ three a b c) where
+    pub three-is : u ≡ true → (p : ℕ) → p ≡ a % 16 * 4096 + b % 64 * 64 + c % 64 → Is p 3 ≡ seen (decode4 a b c d)
+    three-is f p g = rw g (ap seen (sym (decode4-3 a b c d h (sym et ∙ e) (sym eu ∙ f))))
 
-  pub four-is : 0x80 ≤ a → two a b ≡ false → three a b c ≡ false → four a b c d ≡ true
-      → Is (a % 8 * 262144 + b % 64 * 4096 + c % 64 * 64 + d % 64) 4 ≡ seen (decode4 a b c d)
-  four-is h e f g = ap seen (sym (decode4-4 a b c d h e f g))
+    module _ (f : u ≡ false) (v : Bool) (ev : v ≡ four a b c d) where
+      pub four-is : v ≡ true → (p : ℕ) → p ≡ a % 8 * 262144 + b % 64 * 4096 + c % 64 * 64 + d % 64 → Is p 4 ≡ seen (decode4 a b c d)
+      four-is g p k = rw k (ap seen (sym (decode4-4 a b c d h (sym et ∙ e) (sym eu ∙ f) (sym ev ∙ g))))
 
-  pub none-is : 0x80 ≤ a → two a b ≡ false → three a b c ≡ false → four a b c d ≡ false → Not ≡ seen (decode4 a b c d)
-  none-is h e f g = ap seen (sym (decode4-no a b c d h e f g))
+      pub none-is : v ≡ false → Not ≡ seen (decode4 a b c d)
+      none-is g = ap seen (sym (decode4-no a b c d h (sym et ∙ e) (sym eu ∙ f) (sym ev ∙ g)))
 
 -- at a place
 pub code-none : (s : List ℕ) (at : ℕ) → length s ≤ at → Not ≡ seen (decode1 (drop at s))

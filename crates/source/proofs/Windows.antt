@@ -27,6 +27,15 @@ same true false e = absurd (true≢false e)
 same false true e = absurd (true≢false e)
 same false false e = refl
 
+-- the code's test of one byte, where d says whether a tail is due, and of the first three
+pub off-by : (x y z b : ℕ) (d : Bool) → d ≡ due x y z
+    → not (Bool·beq (tail b) d) || eqb b 0xC0 || eqb b 0xC1 || leb 0xF5 b || eqb z 0xE0 && ltb b 0xA0 || eqb z 0xED && leb 0xA0 b || eqb z 0xF0 && ltb b 0x90 || eqb z 0xF4 && leb 0x90 b ≡ off x y z b
+unfolding off
+off-by x y z b d e = rw e
+
+pub front-is : (a b c : ℕ) (p q r : Bool) → p ≡ off 0 0 0 a → q ≡ off 0 0 a b → r ≡ off 0 a b c → p || q || r ≡ off 0 0 0 a || off 0 0 a b || off 0 a b c
+front-is a b c p q r ep eq er = rw (ep, eq, er)
+
 -- what a byte that is in order is
 record In-order (x y z b : ℕ) : Type 0 where
   tailed : tail b ≡ due x y z
@@ -175,16 +184,16 @@ fine-one x y z b w e = rw e
 unfoldable pub left : List ℕ → ℕ → Bool
 left s i = fine (getD s (i - 3) 0) (getD s (i - 2) 0) (getD s (i - 1) 0) (drop i s)
 
-pub fine-start : (s : List ℕ) (p q r : Bool) → 3 ≤ length s → p ≡ off 0 0 0 (getD s 0 0) → q ≡ off 0 0 (getD s 0 0) (getD s 1 0) → r ≡ off 0 (getD s 0 0) (getD s 1 0) (getD s 2 0)
-    → p || q || r ≡ false → left s 3 ≡ fine 0 0 0 s
+pub fine-start : (s : List ℕ) (t : Bool) → 3 ≤ length s → t ≡ off 0 0 0 (getD s 0 0) || off 0 0 (getD s 0 0) (getD s 1 0) || off 0 (getD s 0 0) (getD s 1 0) (getD s 2 0)
+    → t ≡ false → left s 3 ≡ fine 0 0 0 s
 unfolding left
-fine-start [] p q r h ep eq er e = absurd (omega arith)
-fine-start (a ∷ []) p q r h ep eq er e = absurd (omega arith)
-fine-start (a ∷ b ∷ []) p q r h ep eq er e = absurd (omega arith)
-fine-start (a ∷ b ∷ c ∷ s) p q r h ep eq er e =
-    let (u, v) = none (p || q) r e in
-    let (x, y) = none p q u in
-    sym (fine-one 0 0 0 a (b ∷ c ∷ s) (sym ep ∙ x) ∙ fine-one 0 0 a b (c ∷ s) (sym eq ∙ y) ∙ fine-one 0 a b c s (sym er ∙ v))
+fine-start [] t h d e = absurd (omega arith)
+fine-start (a ∷ []) t h d e = absurd (omega arith)
+fine-start (a ∷ b ∷ []) t h d e = absurd (omega arith)
+fine-start (a ∷ b ∷ c ∷ s) t h d e =
+    let (u, r) = none (off 0 0 0 a || off 0 0 a b) (off 0 a b c) (sym d ∙ e) in
+    let (p, q) = none (off 0 0 0 a) (off 0 0 a b) u in
+    sym (fine-one 0 0 0 a (b ∷ c ∷ s) p ∙ fine-one 0 0 a b (c ∷ s) q ∙ fine-one 0 a b c s r)
 
 module _ (s : List ℕ) (i : ℕ) (bad : Bool) (inv : bad ≡ false → left s i ≡ fine 0 0 0 s) where
   pub fine-go : (t : Bool) → 3 ≤ i → i < length s → t ≡ off (getD s (i - 3) 0) (getD s (i - 2) 0) (getD s (i - 1) 0) (getD s i 0)
@@ -197,11 +206,11 @@ module _ (s : List ℕ) (i : ℕ) (bad : Bool) (inv : bad ≡ false → left s i
       let n1 : i + 1 - 1 ≡ i = omega arith in
       rw (n3, n2, n1) (sym (fine-one _ _ _ (getD s i 0) (drop (i + 1) s) (sym d ∙ q)) ∙ (rw (drop-at s i k) at (inv p)))
 
-  pub fine-end : length s ≤ i → bad || due (getD s (i - 3) 0) (getD s (i - 2) 0) (getD s (i - 1) 0) ≡ false → true ≡ accepts (utf8 s)
+  pub fine-end : (t : Bool) → length s ≤ i → t ≡ due (getD s (i - 3) 0) (getD s (i - 2) 0) (getD s (i - 1) 0) → bad || t ≡ false → true ≡ accepts (utf8 s)
   unfolding left fine
-  fine-end h e =
-      let (p, q) = none bad _ e in
-      sym (fine-valid s (sym (inv p) ∙ (rw (drop-end s i h, q))))
+  fine-end t h d e =
+      let (p, q) = none bad t e in
+      sym (fine-valid s (sym (inv p) ∙ (rw (drop-end s i h, ← d, q))))
 
 -- a quick test that found nothing
 pub quick : (w : List ℕ) (t : Bool) → (t ≡ false → true ≡ accepts (utf8 w)) → t ≡ false → true ≡ accepts (utf8 w)

@@ -4,16 +4,16 @@ mod blocks;
 use blocks::cut;
 use blocks::skip_blocks;
 ghost use mathlib.Core.Path.{_≡_};
-ghost use mathlib.Core.Bool.{true, false};
-ghost use Prim.Native.Nat.{_≤_};
+ghost use mathlib.Core.Bool.{true, false, _||_};
+ghost use Prim.Native.Nat.{_+_, _*_, _%_, _≤_};
 ghost use lib.ListN.{drop, getD, length};
 ghost use Rattle.spec.specs.Grammar.Characters.{Text};
-ghost use Rattle.spec.specs.Reading.Utf8.{decode4, decode1};
+ghost use Rattle.spec.specs.Reading.Utf8.{two, three, four, decode4, decode1};
 ghost use Rattle.spec.specs.Reading.Readers.{nothing};
 ghost use Rattle.spec.specs.Reading.Source.{utf8, checked};
 ghost use Rattle.spec.specs.Promises.{Tells};
 ghost use Rattle.source.specs.Seen.{seen, accepts};
-ghost use Rattle.source.specs.Window.{off};
+ghost use Rattle.source.specs.Window.{due, off};
 
 // The longest text that is looked at.
 const LIMIT: usize = 1_048_576;
@@ -44,40 +44,64 @@ pub fn byte_at(s: &[u8], at: usize) -> u8
     if at < s.len() { s[at] } else { 0 }
 }
 
-// RFC 3629, section 4: the alternatives in order. Each bit field is a remainder, which the prover computes with.
+// RFC 3629, section 4: UTF8-2.
+fn is_two(a: u8, b: u8) -> bool
+    ensures { λ r. ⌜ r ≡ two a b ⌝ }
+{
+    (0xC2 <= a) & (a <= 0xDF) & ((0x80 <= b) & (b <= 0xBF))
+}
+
+// RFC 3629, section 4: UTF8-3.
+fn is_three(a: u8, b: u8, c: u8) -> bool
+    ensures { λ r. ⌜ r ≡ three a b c ⌝ }
+{
+    let b_tail = (0x80 <= b) & (b <= 0xBF);
+    let lead = (a == 0xE0) & ((0xA0 <= b) & (b <= 0xBF))
+        | (0xE1 <= a) & (a <= 0xEC) & b_tail
+        | (a == 0xED) & ((0x80 <= b) & (b <= 0x9F))
+        | (0xEE <= a) & (a <= 0xEF) & b_tail;
+    lead & ((0x80 <= c) & (c <= 0xBF))
+}
+
+// RFC 3629, section 4: UTF8-4.
+fn is_four(a: u8, b: u8, c: u8, d: u8) -> bool
+    ensures { λ r. ⌜ r ≡ four a b c d ⌝ }
+{
+    let lead = (a == 0xF0) & ((0x90 <= b) & (b <= 0xBF))
+        | (0xF1 <= a) & (a <= 0xF3) & ((0x80 <= b) & (b <= 0xBF))
+        | (a == 0xF4) & ((0x80 <= b) & (b <= 0x8F));
+    lead & ((0x80 <= c) & (c <= 0xBF)) & ((0x80 <= d) & (d <= 0xBF))
+}
+
+// RFC 3629, section 3: the bits of three bytes that make a code point. Each bit field is a remainder, which the prover computes with.
+fn join_3(a: u8, b: u8, c: u8) -> u32
+    ensures { λ r. ⌜ r ≡ a % 16 * 4096 + b % 64 * 64 + c % 64 ⌝ }
+{
+    (a as u32) % 16 * 4096 + (b as u32) % 64 * 64 + (c as u32) % 64
+}
+
+// RFC 3629, section 3: the bits of four bytes.
+fn join_4(a: u8, b: u8, c: u8, d: u8) -> u32
+    ensures { λ r. ⌜ r ≡ a % 8 * 262144 + b % 64 * 4096 + c % 64 * 64 + d % 64 ⌝ }
+{
+    (a as u32) % 8 * 262144 + (b as u32) % 64 * 4096 + (c as u32) % 64 * 64 + (d as u32) % 64
+}
+
+// RFC 3629, section 4: the alternatives in order.
 fn decode(a: u8, b: u8, c: u8, d: u8) -> Point
     ensures { λ r. ⌜ r ≡ seen (decode4 a b c d) ⌝ }
 {
     if a < 0x80 {
         return Point::Is(a as u32, 1);
     }
-    let b_tail = (0x80 <= b) & (b <= 0xBF);
-    if (0xC2 <= a) & (a <= 0xDF) & b_tail {
+    if is_two(a, b) {
         return Point::Is((a as u32) % 32 * 64 + (b as u32) % 64, 2);
     }
-    let c_tail = (0x80 <= c) & (c <= 0xBF);
-    let lead_3 = (a == 0xE0) & ((0xA0 <= b) & (b <= 0xBF))
-        | (0xE1 <= a) & (a <= 0xEC) & b_tail
-        | (a == 0xED) & ((0x80 <= b) & (b <= 0x9F))
-        | (0xEE <= a) & (a <= 0xEF) & b_tail;
-    if lead_3 & c_tail {
-        return Point::Is(
-            (a as u32) % 16 * 4096 + (b as u32) % 64 * 64 + (c as u32) % 64,
-            3,
-        );
+    if is_three(a, b, c) {
+        return Point::Is(join_3(a, b, c), 3);
     }
-    let d_tail = (0x80 <= d) & (d <= 0xBF);
-    let lead_4 = (a == 0xF0) & ((0x90 <= b) & (b <= 0xBF))
-        | (0xF1 <= a) & (a <= 0xF3) & b_tail
-        | (a == 0xF4) & ((0x80 <= b) & (b <= 0x8F));
-    if lead_4 & c_tail & d_tail {
-        return Point::Is(
-            (a as u32) % 8 * 262144
-                + (b as u32) % 64 * 4096
-                + (c as u32) % 64 * 64
-                + (d as u32) % 64,
-            4,
-        );
+    if is_four(a, b, c, d) {
+        return Point::Is(join_4(a, b, c, d), 4);
     }
     Point::Not
 }
@@ -130,11 +154,18 @@ fn high(s: &[u8]) -> bool
     bad
 }
 
+// Whether a tail is due after the bytes x, y and z.
+fn is_due(x: u8, y: u8, z: u8) -> bool
+    ensures { λ r. ⌜ r ≡ due x y z ⌝ }
+{
+    (0xC0 <= z) | (0xE0 <= y) | (0xF0 <= x)
+}
+
 // Whether b is out of place after the bytes x, y and z.
 fn wrong(x: u8, y: u8, z: u8, b: u8) -> bool
     ensures { λ r. ⌜ r ≡ off x y z b ⌝ }
 {
-    (((0x80 <= b) & (b <= 0xBF)) != ((0xC0 <= z) | (0xE0 <= y) | (0xF0 <= x)))
+    (((0x80 <= b) & (b <= 0xBF)) != is_due(x, y, z))
         | (b == 0xC0)
         | (b == 0xC1)
         | (0xF5 <= b)
@@ -144,18 +175,25 @@ fn wrong(x: u8, y: u8, z: u8, b: u8) -> bool
         | (z == 0xF4) & (0x90 <= b)
 }
 
+// Whether one of a text's first three bytes is out of place.
+fn wrong_front(a: u8, b: u8, c: u8) -> bool
+    ensures { λ r. ⌜ r ≡ off 0 0 0 a || off 0 0 a b || off 0 a b c ⌝ }
+{
+    wrong(0, 0, 0, a) | wrong(0, 0, a, b) | wrong(0, a, b, c)
+}
+
 // Whether a byte is out of place, or one is due at the end.
 fn unfit(s: &[u8]) -> bool
     requires { ⌜ 3 ≤ length (now s) ⌝ }
     ensures { λ r. ⌜ (r ≡ false → true ≡ accepts (utf8 (now (s .entry)))) ⌝ }
 {
-    let mut bad = wrong(0, 0, 0, s[0]) | wrong(0, 0, s[0], s[1]) | wrong(0, s[0], s[1], s[2]);
+    let mut bad = wrong_front(s[0], s[1], s[2]);
     let mut i: usize = 3;
     while i < s.len() {
         bad = bad | wrong(s[i - 3], s[i - 2], s[i - 1], s[i]);
         i += 1;
     }
-    bad | ((0xC0 <= s[i - 1]) | (0xE0 <= s[i - 2]) | (0xF0 <= s[i - 3]))
+    bad | is_due(s[i - 3], s[i - 2], s[i - 1])
 }
 
 // Whether a part is UTF-8: two quick tests that say yes, and the slow one where they do not.

@@ -8,19 +8,14 @@ decode-spec =
     tie.close
     (tie.spec
     (λ c. search forms)  -- returns
-    (λ c. search forms)  -- mul-t17
-    (λ c. search forms)  -- add-t20
+    (λ c κs. search forms)  -- is-two-requires
+    (λ c. search forms)  -- mul-t10
+    (λ c. search forms)  -- add-t13
     (λ c. search forms)  -- returns-2
-    (λ c. search forms)  -- mul-t39
-    (λ c. search forms)  -- mul-t42
-    (λ c. search forms)  -- add-t43
-    (λ c. search forms)  -- add-t46
+    (λ c κs. search forms)  -- is-three-requires
+    (λ c κs. search forms)  -- join-3-requires
     (λ c. search forms)  -- returns-3
-    (λ c. search forms)  -- mul-t49
-    (λ c. search forms)  -- mul-t52
-    (λ c. search forms)  -- add-t53
-    (λ c. search forms)  -- mul-t56
-    (λ c. search forms)  -- add-t57
-    (λ c. search forms)  -- add-t60
+    (λ c κs. search forms)  -- is-four-requires
+    (λ c κs. search forms)  -- join-4-requires
     (λ c. search forms)  -- returns-4
     (λ c. search forms))  -- returns-5

@@ -21,31 +21,27 @@ unfit-spec =
     (tie.spec
     Inv-loop
     μ-loop
-    (λ c. search needs)  -- shared-slice-read-wrong
-    (λ c κs. search needs)  -- wrong-requires
-    (λ c. search needs)  -- shared-slice-read-wrong-2
-    (λ c. search needs)  -- shared-slice-read-wrong-3
-    (λ c κs. search needs)  -- wrong-requires-2
-    (λ c. search needs)  -- shared-slice-read-wrong-4
-    (λ c. search needs)  -- shared-slice-read-wrong-5
-    (λ c. search needs)  -- shared-slice-read-wrong-6
-    (λ c κs. search needs)  -- wrong-requires-3
-    (λ c. (search needs, (search needs, λ e. fine-start _ _ _ _ (search needs) (c .before .before .before .before .before .before .before .wrong .ensures) (c .before .before .before .before .wrong2 .ensures) (c .wrong3 .ensures) e)))  -- loop-holds
+    (λ c. search needs)  -- shared-slice-read-wrong-front
+    (λ c. search needs)  -- shared-slice-read-wrong-front-2
+    (λ c. search needs)  -- shared-slice-read-wrong-front-3
+    (λ c κs. search needs)  -- wrong-front-requires
+    (λ c. (search needs, (search needs, λ e. fine-start _ _ (search needs) (c .wrong-front .ensures) e)))  -- loop-holds
     (λ c. search needs)  -- sub-wrong
-    (λ c. search needs)  -- shared-slice-read-wrong-7
+    (λ c. search needs)  -- shared-slice-read-wrong
     (λ c. search needs)  -- sub-wrong-2
-    (λ c. search needs)  -- shared-slice-read-wrong-8
+    (λ c. search needs)  -- shared-slice-read-wrong-2
     (λ c. search needs)  -- sub-wrong-3
-    (λ c. search needs)  -- shared-slice-read-wrong-9
-    (λ c. search needs)  -- shared-slice-read-wrong-10
-    (λ c κs. search needs)  -- wrong-requires-4
+    (λ c. search needs)  -- shared-slice-read-wrong-3
+    (λ c. search needs)  -- shared-slice-read-wrong-4
+    (λ c κs. search needs)  -- wrong-requires
     (λ c. search needs)  -- add-i
     (λ c. search needs)  -- loop-less
-    (λ c. let l = c .before .before .before .before .before .before .loop in (search needs, (search needs, λ e. fine-go _ _ _ (l .inv .1 .1) _ (l .inv .0) (c .before .before .before .before .before .loop-test .taken) (c .wrong4 .ensures) e)))  -- loop-again
-    (λ c. search needs)  -- sub-result
-    (λ c. search needs)  -- shared-slice-read-result
-    (λ c. search needs)  -- sub-result-2
-    (λ c. search needs)  -- shared-slice-read-result-2
-    (λ c. search needs)  -- sub-result-3
-    (λ c. search needs)  -- shared-slice-read-result-3
+    (λ c. let l = c .before .before .before .before .before .before .loop in (search needs, (search needs, λ e. fine-go _ _ _ (l .inv .1 .1) _ (l .inv .0) (c .before .before .before .before .before .loop-test .taken) (c .wrong .ensures) e)))  -- loop-again
+    (λ c. search needs)  -- sub-is-due
+    (λ c. search needs)  -- shared-slice-read-is-due
+    (λ c. search needs)  -- sub-is-due-2
+    (λ c. search needs)  -- shared-slice-read-is-due-2
+    (λ c. search needs)  -- sub-is-due-3
+    (λ c. search needs)  -- shared-slice-read-is-due-3
+    (λ c κs. search needs)  -- is-due-requires
     (λ c. search (fine-end)))  -- returns

@@ -1,0 +1,14 @@
+-- `source::wrong_front` meets its contract. Assumes nothing.
+use borrow.Author.Needs.{needs}
+use Rattle.source.proofs.Windows.{front-is}
+use Rattle.source.proofs.wrong_front.Statement.{statement}
+use Rattle.source.proofs.wrong_front.Tie as tie
+
+pub wrong-front-spec : {M : Type 1} → statement M
+wrong-front-spec =
+    tie.close
+    (tie.spec
+    (λ c κs. search needs)  -- wrong-requires
+    (λ c κs. search needs)  -- wrong-requires-2
+    (λ c κs. search needs)  -- wrong-requires-3
+    (λ c. search (front-is)))  -- returns
