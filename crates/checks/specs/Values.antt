@@ -1,17 +1,10 @@
 -- The tests of the XML declaration's values, by the kind of value that the code names. Assumes nothing.
-use mathlib.Core.Bool.{Bool, _||_}
+use mathlib.Core.Bool.{Bool}
 use mathlib.Core.List.{List}
 use Prim.Native.Nat.{ℕ}
-use Rattle.spec.specs.Grammar.Languages.{one-of}
-use Rattle.spec.specs.Grammar.References.{digit}
-use Rattle.spec.specs.Grammar.XmlDecl.{latin-letter}
 use Rattle.spec.specs.Reading.Checks.{is-version-num, is-enc-name, is-yes-or-no}
 use Rattle.checks.specs.declared.values.Kind.{Kind}
 use Rattle.checks.specs.declared.values.Kind.the-variants.{VersionNum, EncName, YesOrNo}
-
--- what an encoding's name goes on with: [A-Za-z0-9._] | '-'
-abbrev pub enc-char : ℕ → Bool
-enc-char c = latin-letter c || digit c || one-of "._-" c
 
 unfoldable pub test-of : Kind → List ℕ → Bool
 test-of VersionNum = is-version-num

@@ -2,10 +2,10 @@
 -- is what the prover asks of every function: it ends, reads inside its texts and wraps no number, on all inputs.) Assumes nothing.
 use mathlib.Core.Path.{_≡_, refl}
 use mathlib.Core.Logic.{_↔_, _⊎_}
-use mathlib.Core.Bool.{false, _&&_}
+use mathlib.Core.Bool.{_&&_}
 use mathlib.Core.List.{List, _∷_, _++_}
 use Prim.Native.Nat.{ℕ, _+_, _≤_}
-use lib.Dec.{T, eqb}
+use lib.Dec.{eqb}
 use lib.ListN.{length, take}
 use Rattle.spec.specs.Grammar.AppendixB.{appendix-B}
 use Rattle.spec.specs.Grammar.Characters.{Chars}
@@ -14,14 +14,13 @@ use Rattle.spec.specs.Grammar.Doctype.{doctypedecl, Misc}
 use Rattle.spec.specs.Grammar.Names.{Dialect, Name, NCName, with-groups}
 use Rattle.spec.specs.Grammar.References.{Referred, CharData, AttText}
 use Rattle.spec.specs.Grammar.XmlDecl.{XMLDecl}
-use Rattle.spec.specs.Premise.{bare, premise, promised}
-use Rattle.spec.specs.Promises.{Checks, Tells, Handed}
+use Rattle.spec.specs.Promises.{Checks, Tells, Covered, expected}
 use Rattle.spec.specs.Reading.Checks.{check-declaration, is-ncname}
 use Rattle.spec.specs.Reading.Dtd.{check-doctype}
 use Rattle.spec.specs.Reading.Prolog.{doctype, doctype-end, next-item}
 use Rattle.spec.specs.Reading.Readers.{ok, err, Reader, nothing}
 use Rattle.spec.specs.Reading.Refusals.{Refusal}
-use Rattle.spec.specs.Reading.Scan.{scan, not-opened, at}
+use Rattle.spec.specs.Reading.Scan.{scan, at}
 use Rattle.spec.specs.Reading.Source.{checked}
 use Rattle.spec.specs.Reading.Stops.{passed, stopped, doctype-progress, stop-place}
 use Rattle.spec.specs.Reading.Wellformed.{check-chars, check-char-refs, check-text, check-attr-value, check-name}
@@ -31,8 +30,8 @@ use Rattle.spec.proofs.Agreement.Accepts.{promise, tells}
 use Rattle.spec.proofs.Characters.AppendixB.{appendix-B-ascii}
 use Rattle.spec.proofs.Checks.NCNames.{ncname-decides}
 use Rattle.spec.proofs.Checks.XmlDecl.{declaration-agrees}
-use Rattle.spec.proofs.Division.Places.{divided, apart, one-division, cuts}
-use Rattle.spec.proofs.Division.Scans.{cuts-without}
+use Rattle.spec.proofs.Division.Places.{divided, apart, one-division}
+use Rattle.spec.proofs.Division.Promised.{cuts-covered}
 use Rattle.spec.proofs.Dtd.Depth.{deeper-same-B}
 use Rattle.spec.proofs.Dtd.Texts.{doctype-agrees}
 use Rattle.spec.proofs.Prolog.Handed.{doctype-handed}
@@ -96,12 +95,8 @@ pub one-way-only : (w : List ℕ) (a b : Division appendix-B w) → (a .entries 
 one-way-only = one-division appendix-B appendix-B-ascii
 
 -- Of every front part the scan says where the division's '[' and ']' are, where the premise holds; of a text without a subset, nothing.
-pub cut-anywhere : (w : List ℕ) (d : Division appendix-B w) → T (premise appendix-B bare w false (d .entries))
-    → (cut : ℕ) → scan (take cut w) ≡ promised (d .opening) (d .closing) cut
-cut-anywhere = cuts appendix-B appendix-B-ascii
-
-pub cut-without : (w : List ℕ) → Front appendix-B w → (cut : ℕ) → scan (take cut w) ≡ not-opened
-cut-without = cuts-without appendix-B appendix-B-ascii
+pub cut-anywhere : (t : List ℕ) (c : Covered appendix-B t) (cut : ℕ) → scan (take cut t) ≡ expected appendix-B c cut
+cut-anywhere = cuts-covered appendix-B appendix-B-ascii
 
 -- Where a DOCTYPE went wrong: the progress stops just where the order of reading refuses, at a place of the text. What is accepted is
 -- passed, up to the text's end.
@@ -113,9 +108,9 @@ accepted-passes w k e = (passes-where-accepted appendix-B w k e, end-where-accep
 
 -- The command's part: of a text that demand 3 speaks of, the prolog's rule finds the end where it stands, and hands over that very text,
 -- whatever white space, comments and instructions stand before the DOCTYPE.
-pub doctype-found : (t r : List ℕ) → Handed appendix-B t → doctype-end (t ++ 62 ∷ r) ≡ at (length t)
+pub doctype-found : (t r : List ℕ) → Covered appendix-B t → doctype-end (t ++ 62 ∷ r) ≡ at (length t)
 doctype-found = doctype-ends appendix-B appendix-B-ascii
 
-pub doctype-handed-over : (m t r : List ℕ) → Star (Misc appendix-B) m → Handed appendix-B t
+pub doctype-handed-over : (m t r : List ℕ) → Star (Misc appendix-B) m → Covered appendix-B t
     → next-item (m ++ (ascii "<!DOCTYPE" ++ (t ++ (62 ∷ r)))) ≡ doctype (length m + 9) (length m + 9 + length t)
 doctype-handed-over = doctype-handed appendix-B appendix-B-ascii

@@ -45,15 +45,17 @@ module _ (D : Dialect) where
     pub grammar : (n ≡ 0) ↔ Accepted (doctypedecl D) w
     pub division : Divides w n
 
-  -- demand 3, where w is the front part of a text t, cut between two characters or whole: what the scan says of w, if t has no
-  -- subset, and if t has a division whose entries meet the premise. (By `parted` an accepted t is one or the other.)
-  pub record Cuts (w : List ℕ) (Says : Scan → Type 0) : Type 0 where
-    pub without : (t : List ℕ) (cut : ℕ) → w ≡ take cut t → Accepted Text w → Front D t → Says not-opened
-    pub divided :
-        (t : List ℕ) (cut : ℕ) → w ≡ take cut t → Accepted Text w
-        → (d : Division D t) → T (premise D bare t false (d .entries)) → Says (promised (d .opening) (d .closing) cut)
+  -- a DOCTYPE's text, between '<!DOCTYPE' and its '>', that demand 3 speaks of: it has no subset, or a division whose entries meet the
+  -- premise. (By `parted` an accepted text has no subset or a division, and a text that has is accepted, if it is not too long.)
+  pub data Covered (t : List ℕ) : Type 0 where
+    no-subset : Front D t → Covered t
+    has-subset : (d : Division D t) → T (premise D bare t false (d .entries)) → Covered t
 
-  -- a DOCTYPE's text, from '<!DOCTYPE' to its '>', as demand 3 asks for it: it has no subset, or a division whose entries meet the
-  -- premise. (By `parted` it is accepted, if it is not too long.)
-  abbrev pub Handed : Lang
-  Handed t = Front D t ⊎ ((d : Division D t) × T (premise D bare t false (d .entries)))
+  -- what the scan must say of the front part of it that a cut leaves
+  abbrev pub expected : {t : List ℕ} → Covered t → ℕ → Scan
+  expected (no-subset f) cut = not-opened
+  expected (has-subset d p) cut = promised (d .opening) (d .closing) cut
+
+  -- demand 3: what the scan says of w, wherever w is the front part of such a text t, cut between two characters or whole
+  abbrev pub Cuts : List ℕ → (Scan → Type 0) → Type 0
+  Cuts w Says = (t : List ℕ) (cut : ℕ) → w ≡ take cut t → Accepted Text w → (c : Covered t) → Says (expected c cut)

@@ -119,7 +119,7 @@ module _ (s : List ℕ) (r : Reached) (a : r ≡ reach (doctype-progress (dialec
   unfolding reach stop-place dialect
   place-passed e = go (doctype-progress appendix-B s) (sym e ∙ a)
     where
-      go : (x : Progress) → Passed i ≡ marked 0 x → i ≡ place-of appendix-B x
+      go : (x : Progress) → Passed i ≡ marked 0 x → i ≡ place-of x
       go (passed k) f = Passed-inj f ∙ (omega arith)
       go (stopped k) f = absurd (Passed≢Stopped f)
 
@@ -127,7 +127,7 @@ module _ (s : List ℕ) (r : Reached) (a : r ≡ reach (doctype-progress (dialec
   unfolding reach stop-place dialect
   place-stopped e = go (doctype-progress appendix-B s) (sym e ∙ a)
     where
-      go : (x : Progress) → Stopped i ≡ marked 0 x → i ≡ place-of appendix-B x
+      go : (x : Progress) → Stopped i ≡ marked 0 x → i ≡ place-of x
       go (passed k) f = absurd (Passed≢Stopped (sym f))
       go (stopped k) f = let z : i ≡ 0 + k = cc in omega arith
 

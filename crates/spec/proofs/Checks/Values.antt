@@ -12,7 +12,7 @@ use Rattle.spec.specs.Basics.{within}
 use Rattle.spec.specs.Grammar.Characters.{Text}
 use Rattle.spec.specs.Grammar.Languages.{Lang, lit, ascii, Ch, _·_, _∣_, inl, inr, Star, more, Plus, any, one-of}
 use Rattle.spec.specs.Grammar.References.{digit}
-use Rattle.spec.specs.Grammar.XmlDecl.{VersionNum, latin-letter, EncName}
+use Rattle.spec.specs.Grammar.XmlDecl.{VersionNum, latin-letter, enc-char, EncName}
 use Rattle.spec.specs.Reading.Checks.{all-of, is-version-num, is-enc-name, is-yes-or-no}
 use Rattle.spec.specs.Reading.Readers.{starts, run}
 use Rattle.spec.proofs.Agreement.Accepts.{Decides}
@@ -47,11 +47,8 @@ small-or p q f g c t = go (or-cases (p c) (q c) (T→true (p c || q c) t))
 letter-ascii : Small latin-letter
 letter-ascii = small-or (within 0x41 0x5A) (within 0x61 0x7A) (λ c t. omega (arith, within-hi 0x41 0x5A c (T→true (within 0x41 0x5A c) t))) (λ c t. omega (arith, within-hi 0x61 0x7A c (T→true (within 0x61 0x7A c) t)))
 
-abbrev enc-part : ℕ → Bool
-enc-part c = latin-letter c || digit c || one-of "._-" c
-
-part-ascii : Small enc-part
-part-ascii = small-or (λ c. latin-letter c || digit c) (one-of "._-") (small-or latin-letter digit letter-ascii digit-ascii) (among-ascii (ascii "._-") tt)
+enc-ascii : Small enc-char
+enc-ascii = small-or (λ c. latin-letter c || digit c) (one-of "._-") (small-or latin-letter digit letter-ascii digit-ascii) (among-ascii (ascii "._-") tt)
 
 -- a text of one class
 all-star : (p : ℕ → Bool) → Small p → (w : List ℕ) → Text w → all-of p w ≡ true → Star (Ch p) w
@@ -102,33 +99,33 @@ version-value = record { decides = version-decides; no-double = free 34 (omega a
 -- EncName
 enc-decides : Decides is-enc-name EncName
 unfolding is-enc-name EncName Text
-enc-decides = record { answer = λ w t. (yes w t, no w); text = texts-cat (texts-ch latin-letter) (texts-star (texts-ch enc-part)) }
+enc-decides = record { answer = λ w t. (yes w t, no w); text = texts-cat (texts-ch latin-letter) (texts-star (texts-ch enc-char)) }
   where
     yes : (w : List ℕ) → Text w → is-enc-name w ≡ true → EncName w
     yes [] t e = absurd (true≢false (sym e))
     yes (b ∷ w) t e =
-        let l : T (latin-letter b) = true→T (latin-letter b) (and-left (latin-letter b) (all-of enc-part w) e) in
+        let l : T (latin-letter b) = true→T (latin-letter b) (and-left (latin-letter b) (all-of enc-char w) e) in
         let h : b < 128 = letter-ascii b l in
         record {
           left = b ∷ [];
           right = w;
           split = refl;
           first = ascii-char latin-letter b h l;
-          second = all-star enc-part part-ascii w (text-rest w (star-one (ascii-char any b h tt)) t) (and-right (latin-letter b) (all-of enc-part w) e);
+          second = all-star enc-char enc-ascii w (text-rest w (star-one (ascii-char any b h tt)) t) (and-right (latin-letter b) (all-of enc-char w) e);
         }
 
     no : (w : List ℕ) → EncName w → is-enc-name w ≡ true
     no w c =
         let b : Ch latin-letter (c .left) = c .first in
         let e : c .left ≡ b .char ∷ [] = b .bytes ∙ encode-1 (b .char) (letter-ascii (b .char) (b .in-class)) in
-        ap is-enc-name (c .split ∙ ap (λ (x : List ℕ). x ++ c .right) e) ∙ rw (T→true (latin-letter (b .char)) (b .in-class)) (star-all enc-part part-ascii refl (c .second))
+        ap is-enc-name (c .split ∙ ap (λ (x : List ℕ). x ++ c .right) e) ∙ rw (T→true (latin-letter (b .char)) (b .in-class)) (star-all enc-char enc-ascii refl (c .second))
 
 pub enc-value : Value is-enc-name EncName
 unfolding EncName
 enc-value = record { decides = enc-decides; no-double = free 34 (omega arith) refl refl; no-single = free 39 (omega arith) refl refl }
   where
-    free : (a : ℕ) → a < 128 → latin-letter a ≡ false → enc-part a ≡ false → Avoiding a (Ch latin-letter · Star (Ch enc-part))
-    free a l n m = avoiding-cat a (λ u c. class-avoids latin-letter a l n (star-one c)) (λ u s. class-avoids enc-part a l m s)
+    free : (a : ℕ) → a < 128 → latin-letter a ≡ false → enc-char a ≡ false → Avoiding a (Ch latin-letter · Star (Ch enc-char))
+    free a l n m = avoiding-cat a (λ u c. class-avoids latin-letter a l n (star-one c)) (λ u s. class-avoids enc-char a l m s)
 
 -- a word and no more
 is-word : (s w : List ℕ) → (starts s w && eqb (length w) (length s)) ≡ true → w ≡ s

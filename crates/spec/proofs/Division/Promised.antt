@@ -1,12 +1,12 @@
 -- What check_doctype and the scan promise of the division, from the theorems on it. Assumes nothing.
 use mathlib.Core.List.{List}
-use mathlib.Core.Path.{_≡_, sym, subst, _∙_}
+use mathlib.Core.Path.{_≡_, subst}
 use Prim.Native.Nat.{ℕ}
 use lib.ListN.{take}
 use Rattle.spec.specs.Grammar.Characters.{Text}
 use Rattle.spec.specs.Grammar.Doctype.{doctypedecl}
 use Rattle.spec.specs.Grammar.Names.{Dialect}
-use Rattle.spec.specs.Promises.{Accepted, Checks, ChecksDoctype, Cuts}
+use Rattle.spec.specs.Promises.{Accepted, Checks, ChecksDoctype, Covered, no-subset, has-subset, expected, Cuts}
 use Rattle.spec.specs.Reading.Dtd.{check-doctype}
 use Rattle.spec.specs.Reading.Scan.{Scan, scan}
 use Rattle.spec.proofs.Division.Places.{divided, apart, one-division, cuts}
@@ -26,9 +26,11 @@ module _ (D : Dialect) (A : AsciiNames D) where
     };
   }
 
+  -- of every front part the rule says what it must
+  pub cuts-covered : (t : List ℕ) (c : Covered D t) (cut : ℕ) → scan (take cut t) ≡ expected D c cut
+  cuts-covered t (no-subset f) cut = cuts-without D A t f cut
+  cuts-covered t (has-subset d p) cut = cuts D A t d p cut
+
   -- whoever says what the rule says keeps the promise of the cuts
   pub cuts-promise : (w : List ℕ) (Says : Scan → Type 0) → (Accepted Text w → Says (scan w)) → Cuts D w Says
-  cuts-promise w Says says = record {
-    without = λ t cut e a f. subst Says (rw e (cuts-without D A t f cut)) (says a);
-    divided = λ t cut e a d p. subst Says (rw e (cuts D A t d p cut)) (says a);
-  }
+  cuts-promise w Says says t cut e a c = subst Says (rw e (cuts-covered t c cut)) (says a)

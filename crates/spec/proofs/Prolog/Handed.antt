@@ -1,5 +1,5 @@
 -- What the command hands to the checks: the very text of the DOCTYPE, and of the XML declaration. Assumes nothing.
-use mathlib.Core.Bool.{true, false, _||_}
+use mathlib.Core.Bool.{true, false}
 use mathlib.Core.List.{List, [], _∷_, _++_, append-assoc, append-nil}
 use mathlib.Core.Path.{_≡_, refl, sym, _∙_, ap}
 use Prim.Native.Nat.{ℕ, _+_}
@@ -12,8 +12,8 @@ use Rattle.spec.specs.Grammar.Languages.{Lang, lit, ascii, Ch, _·_, _�
 use Rattle.spec.specs.Grammar.Literals.{Quoted}
 use Rattle.spec.specs.Grammar.Names.{Dialect}
 use Rattle.spec.specs.Grammar.References.{digit}
-use Rattle.spec.specs.Grammar.XmlDecl.{Eq, VersionNum, VersionInfo, latin-letter, EncName, EncodingDecl, SDDecl, XMLDecl}
-use Rattle.spec.specs.Promises.{Handed}
+use Rattle.spec.specs.Grammar.XmlDecl.{Eq, VersionNum, VersionInfo, latin-letter, enc-char, EncName, EncodingDecl, SDDecl, XMLDecl}
+use Rattle.spec.specs.Promises.{Covered}
 use Rattle.spec.specs.Reading.Prolog.{declaration, doctype, declared, docked, word-at, is-declaration, doctype-end, next-item}
 use Rattle.spec.specs.Reading.Readers.{starts, contains, run}
 use Rattle.spec.specs.Reading.Scan.{at}
@@ -32,7 +32,7 @@ use Rattle.spec.proofs.Wellformed.References.{Avoiding, avoiding-cat, a
 
 -- the DOCTYPE, after whatever may stand before it
 module _ (D : Dialect) (A : AsciiNames D) where
-  pub doctype-handed : (m t r : List ℕ) → Star (Misc D) m → Handed D t
+  pub doctype-handed : (m t r : List ℕ) → Star (Misc D) m → Covered D t
       → next-item (m ++ (ascii "<!DOCTYPE" ++ (t ++ (62 ∷ r)))) ≡ doctype (length m + 9) (length m + 9 + length t)
   doctype-handed m t r s h =
       pass-misc D A (ascii "<!DOCTYPE" ++ (t ++ (62 ∷ r))) s
@@ -80,7 +80,7 @@ unasked-encoding : Unasked EncodingDecl
 unfolding EncodingDecl EncName
 unasked-encoding =
     avoiding-cat 63 unasked-s (avoiding-cat 63 (unasked-lit "encoding" refl) (avoiding-cat 63 unasked-eq (unasked-quoted
-    (avoiding-cat 63 (λ u c. class-avoids latin-letter 63 (omega arith) refl (star-one c)) (λ u s. class-avoids (λ c. latin-letter c || digit c || one-of "._-" c) 63 (omega arith) refl s)))))
+    (avoiding-cat 63 (λ u c. class-avoids latin-letter 63 (omega arith) refl (star-one c)) (λ u s. class-avoids enc-char 63 (omega arith) refl s)))))
 
 unasked-standalone : Unasked SDDecl
 unfolding SDDecl

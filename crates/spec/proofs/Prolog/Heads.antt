@@ -1,7 +1,6 @@
 -- Where a DOCTYPE's text ends: the rule passes its head as the quick scan does, and then its subset. Assumes nothing.
 use mathlib.Core.Bool.{Bool, true, false, _&&_, _||_, not, true≢false}
 use mathlib.Core.List.{List, [], _∷_, _++_, append-assoc}
-use mathlib.Core.Logic.{inl, inr}
 use mathlib.Core.Path.{_≡_, refl, sym, _∙_, ap}
 use Prim.Native.Nat.{ℕ, suc, _+_}
 use native.Mathlib.Omega.{arith}
@@ -14,7 +13,7 @@ use Rattle.spec.specs.Grammar.Division.{Front}
 use Rattle.spec.specs.Grammar.Languages.{ascii, one-of, none-of}
 use Rattle.spec.specs.Grammar.Names.{Dialect}
 use Rattle.spec.specs.Premise.{bare}
-use Rattle.spec.specs.Promises.{Handed}
+use Rattle.spec.specs.Promises.{Covered, no-subset, has-subset}
 use Rattle.spec.specs.Reading.Prolog.{word-at, head-end, after-head, after-subset, doctype-end}
 use Rattle.spec.specs.Reading.Readers.{starts, before}
 use Rattle.spec.specs.Reading.Scan.{Place, at, later, subset-end}
@@ -119,10 +118,10 @@ module _ (D : Dialect) (A : AsciiNames D) where
           ∙ ap (λ (u : List ℕ). later (suc (length x) + length y) (word-at ">" u)) rest ∙ ap (later (suc (length x) + length y)) sign
           ∙ ap at (let n : suc (length x) + length y + suc (length z) ≡ length x + suc (length y + suc (length z)) = omega arith in n)
 
-  pub doctype-ends : (t r : List ℕ) → Handed D t → doctype-end (t ++ 62 ∷ r) ≡ at (length t)
+  pub doctype-ends : (t r : List ℕ) → Covered D t → doctype-end (t ++ 62 ∷ r) ≡ at (length t)
   unfolding S?
-  doctype-ends t r (inl f) = front-ends t r f
-  doctype-ends t r (inr (v, p)) =
+  doctype-ends t r (no-subset f) = front-ends t r f
+  doctype-ends t r (has-subset v p) =
       let (d, m) = parts-met D A bare t v p in
       let x : List ℕ = d .front in
       let y : List ℕ = d .inner in

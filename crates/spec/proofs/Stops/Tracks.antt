@@ -148,4 +148,4 @@ end-where-accepted D w k e =
     let a : (doctype-progress D w ≡ passed k) × (k ≤ length w) = (let x = tracks-doctype D .alike w in (rw e at x)) in
     let l : length w - k ≡ 0 = sym (length-drop k w) ∙ ap length (ends-doctype D .ends w k e) in
     let z : k ≡ length w = (let y = a .1 in omega arith) in
-    ap (place-of D) (a .0) ∙ z
+    ap place-of (a .0) ∙ z

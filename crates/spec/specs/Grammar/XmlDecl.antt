@@ -23,9 +23,13 @@ VersionInfo = S · lit "version" · Eq · Quoted VersionNum VersionNum
 abbrev pub latin-letter : ℕ → Bool
 latin-letter c = within 0x41 0x5A c || within 0x61 0x7A c
 
+-- what an encoding's name goes on with: [A-Za-z0-9._] | '-'
+abbrev pub enc-char : ℕ → Bool
+enc-char c = latin-letter c || digit c || one-of "._-" c
+
 -- [81] EncName ::= [A-Za-z] ([A-Za-z0-9._] | '-')*
 unfoldable pub EncName : Lang
-EncName = Ch latin-letter · Star (Ch (λ c. latin-letter c || digit c || one-of "._-" c))
+EncName = Ch latin-letter · Star (Ch enc-char)
 
 -- [80] EncodingDecl ::= S 'encoding' Eq ('"' EncName '"' | "'" EncName "'" )
 unfoldable pub EncodingDecl : Lang

@@ -6,11 +6,11 @@ use Prim.Native.Nat.{ℕ}
 use Prim.Native.String.{String}
 use lib.Dec.{eqb, ltb}
 use lib.ListN.{length, drop}
-use Rattle.spec.specs.Grammar.Languages.{ascii, one-of}
+use Rattle.spec.specs.Grammar.Languages.{ascii}
 use Rattle.spec.specs.Grammar.Characters.{space}
 use Rattle.spec.specs.Grammar.Names.{Dialect}
 use Rattle.spec.specs.Grammar.References.{digit}
-use Rattle.spec.specs.Grammar.XmlDecl.{latin-letter}
+use Rattle.spec.specs.Grammar.XmlDecl.{latin-letter, enc-char}
 use Rattle.spec.specs.Reading.Refusals.{unexpected, trailing, bad-value}
 use Rattle.spec.specs.Reading.Readers.{Result, Reader, number-of, _>>_, nothing, refuse, at-end, starts, choose, word, run, contains}
 use Rattle.spec.specs.Reading.Wellformed.{check-name}
@@ -27,7 +27,7 @@ is-version-num w = starts (ascii "1.") w && (ltb 0 (length (drop 2 w)) && all-of
 -- is_enc_name
 unfoldable pub is-enc-name : List ℕ → Bool
 is-enc-name [] = false
-is-enc-name (b ∷ w) = latin-letter b && all-of (λ c. latin-letter c || digit c || one-of "._-" c) w
+is-enc-name (b ∷ w) = latin-letter b && all-of enc-char w
 
 -- "yes" or "no"
 unfoldable pub is-yes-or-no : List ℕ → Bool

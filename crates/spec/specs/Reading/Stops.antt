@@ -37,6 +37,11 @@ infixr 60 _⊳_
 unfoldable pub _⊳_ : (List ℕ → Progress) → (List ℕ → Progress) → List ℕ → Progress
 (p ⊳ q) w = on-passed (p w) (λ k. further k (q (drop k w)))
 
+-- the place, where it stops; the text's end, where it does not
+abbrev pub place-of : Progress → ℕ
+place-of (passed k) = k
+place-of (stopped k) = k
+
 module _ (D : Dialect) where
   -- parse_internal_subset, an entry at a time, up to and with the ']'
   unfoldable pub subset-progress : ℕ → Bool → List ℕ → Progress
@@ -56,11 +61,7 @@ module _ (D : Dialect) where
       ⊳ (λ w. pick (starts (ascii "[") w) ((part (word "[" unexpected) ⊳ (λ x. subset-progress (suc (length x)) false x) ⊳ part skip-s) w) (passed 0))
       ⊳ part (at-end trailing)
 
-  -- the place, where it stops; the text's end, where it does not
-  abbrev pub place-of : Progress → ℕ
-  place-of (passed k) = k
-  place-of (stopped k) = k
-
+  -- that of the whole
   unfoldable pub stop-place : List ℕ → ℕ
   stop-place w = place-of (doctype-progress w)
 

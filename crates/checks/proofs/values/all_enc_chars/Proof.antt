@@ -2,8 +2,8 @@
 use mathlib.Core.Path.{_≡_}
 use Prim.Native.Nat.{_+_, _-_, _≤_}
 use lib.ListN.{length, drop}
+use Rattle.spec.specs.Grammar.XmlDecl.{enc-char}
 use Rattle.spec.specs.Reading.Readers.{run}
-use Rattle.checks.specs.Values.{enc-char}
 use Rattle.checks.proofs.Valuing.{valuing}
 use Rattle.checks.proofs.values.all_enc_chars.Statement.{statement}
 use Rattle.checks.proofs.values.all_enc_chars.Tie as tie
