@@ -12,7 +12,7 @@ use Rattle.spec.specs.Reading.Refusals.{Refusal, number}
 use Rattle.spec.specs.Reading.Utf8 as Utf8
 use Rattle.spec.specs.Reading.Utf8.{point, no-point, decode1}
 use Rattle.spec.specs.Reading.Readers.{begins, char}
-use Rattle.spec.proofs.Characters.Valid.{point-size}
+use Rattle.spec.proofs.Characters.Utf8.{point-size}
 use Rattle.error.specs.Read.{read}
 use Rattle.error.specs.declared.Answer.the-variants.{At, No}
 use Rattle.source.specs.Seen.{seen}

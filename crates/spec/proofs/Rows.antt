@@ -2,12 +2,12 @@
 -- is 0. Assumes nothing.
 use mathlib.Core.Path.{_≡_, refl, sym, _∙_}
 use mathlib.Core.Logic.{_↔_}
-use mathlib.Core.Bool.{Bool, true, false, _&&_}
+use mathlib.Core.Bool.{Bool, true, _&&_}
 use mathlib.Core.List.{List, [], _∷_}
 use Prim.Native.Nat.{ℕ, _≤_}
 use lib.Dec.{T, eqb, leb}
 use lib.ListN.{length}
-use Rattle.spec.specs.Grammar.Languages.{Lang, ascii}
+use Rattle.spec.specs.Grammar.Languages.{ascii}
 use Rattle.spec.specs.Grammar.Characters.{xml-char}
 use Rattle.spec.specs.Grammar.References.{digit-value, value-on}
 use Rattle.spec.specs.Grammar.AppendixB.{in-table, start-char, part-char, appendix-B}
@@ -87,7 +87,7 @@ use Rattle.spec.specs.Reading.Dtd.{
 use Rattle.spec.specs.Reading.Checks.{all-of, is-version-num, valued, parse-eq-quoted, pseudo-attr, check-declaration}
 use Rattle.spec.specs.Promises.{Checks}
 use Rattle.spec.specs.Rows.{Subject, doctype, declaration, rule-of, grammar-of, Row, rows}
-use Rattle.spec.proofs.Base.Tests.{T→true, true→T, and-left, and-right, eqb-true, leb-true}
+use Rattle.spec.proofs.Base.Tests.{and-left, and-right, eqb-true, leb-true}
 use Rattle.spec.proofs.Agreement.Accepts.{Agrees, promise}
 use Rattle.spec.proofs.Characters.AppendixB.{appendix-B-ascii}
 use Rattle.spec.proofs.Checks.XmlDecl.{declaration-agrees}

@@ -10,9 +10,9 @@ use lib.Seq.{drop-append-seam, drop-at}
 use Rattle.spec.specs.Basics.{pick}
 use Rattle.spec.specs.Grammar.Characters.{Text}
 use Rattle.spec.specs.Grammar.Languages.{Lang, _·_, _∣_, inl, inr}
-use Rattle.spec.specs.Reading.Readers.{Result, ok, err, Reader, on-ok, _>>_, choose, past}
+use Rattle.spec.specs.Reading.Readers.{ok, Reader, _>>_, choose}
 use Rattle.spec.proofs.Agreement.Signs.{kind, Class, Sub, sub-at, _∪_, in-left, in-right}
-use Rattle.spec.proofs.Base.Results.{err-ok, ok-inj}
+use Rattle.spec.proofs.Base.Results.{then-ok}
 
 -- what a reader took, and what is left
 pub record Took (L : Lang) (k : ℕ) (w : List ℕ) : Type 0 where
@@ -52,25 +52,18 @@ drop-took {k = k} {w = w} t = ap (drop k) (t .split) ∙ drop-at (t .taken) (t .
 
 -- one after the other, where the second may use how the first ended
 pub sound-after : (P : List ℕ → Type 0) (r s : Reader) (L M : Lang) → Sound r L → ((w : List ℕ) (k : ℕ) → r w ≡ ok k → P (drop k w)) → ((w : List ℕ) (k : ℕ) → P w → Text w → s w ≡ ok k → Took M k w) → Sound (r >> s) (L · M)
-unfolding _>>_
-sound-after P r s L M sr ended ss w n tw e = by-first (r w) refl e
-  where
-    by-second : (k : ℕ) (t : Took L k w) → P (t .rest) → (a : Result) → s (t .rest) ≡ a → past k a ≡ ok n → Took (L · M) n w
-    by-second k t p (err m) f g = absurd (err-ok m n g)
-    by-second k t p (ok j) f g =
-        let t₂ : Took M j (t .rest) = ss (t .rest) j p (t .left) f in
-        record {
-          taken = t .taken ++ t₂ .taken;
-          rest = t₂ .rest;
-          split = t .split ∙ ap (λ (x : List ℕ). t .taken ++ x) (t₂ .split) ∙ sym (append-assoc (t .taken) (t₂ .taken) (t₂ .rest));
-          size = length-append (t .taken) (t₂ .taken) ∙ (λ i. t .size i + t₂ .size i) ∙ ok-inj (k + j) n g;
-          holds = record { left = t .taken; right = t₂ .taken; split = refl; first = t .holds; second = t₂ .holds };
-          left = t₂ .left;
-        }
-
-    by-first : (a : Result) → r w ≡ a → on-ok a (λ k. past k (s (drop k w))) ≡ ok n → Took (L · M) n w
-    by-first (err m) f g = absurd (err-ok m n g)
-    by-first (ok k) f g = let t : Took L k w = sr w k tw f in by-second k t (subst P (drop-took t) (ended w k f)) (s (t .rest)) refl (rw (drop-took t) at g)
+sound-after P r s L M sr ended ss w n tw e =
+    let (k, j, f, g, l) = then-ok r s w n e in
+    let t : Took L k w = sr w k tw f in
+    let t₂ : Took M j (t .rest) = ss (t .rest) j (subst P (drop-took t) (ended w k f)) (t .left) (ap s (sym (drop-took t)) ∙ g) in
+    record {
+      taken = t .taken ++ t₂ .taken;
+      rest = t₂ .rest;
+      split = t .split ∙ ap (λ (x : List ℕ). t .taken ++ x) (t₂ .split) ∙ sym (append-assoc (t .taken) (t₂ .taken) (t₂ .rest));
+      size = length-append (t .taken) (t₂ .taken) ∙ (λ i. t .size i + t₂ .size i) ∙ l;
+      holds = record { left = t .taken; right = t₂ .taken; split = refl; first = t .holds; second = t₂ .holds };
+      left = t₂ .left;
+    }
 
 pub sound-seq : (r s : Reader) (L M : Lang) → Sound r L → Sound s M → Sound (r >> s) (L · M)
 sound-seq r s L M sr ss = sound-after (λ w. T true) r s L M sr (λ w k e. tt) (λ w k p tw e. ss w k tw e)

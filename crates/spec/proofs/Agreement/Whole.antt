@@ -2,7 +2,7 @@
 use mathlib.Core.Bool.{Bool, true, false}
 use mathlib.Core.List.{List, [], _∷_, _++_, append-nil}
 use mathlib.Core.Path.{_≡_, refl, sym, _∙_, ap, subst}
-use Prim.Native.Nat.{ℕ, suc, _+_, _<_}
+use Prim.Native.Nat.{ℕ, suc, _<_}
 use native.Mathlib.Omega.{arith}
 use lib.Dec.{T, ltb, eqb, eqb→eq}
 use lib.ListN.{length, drop}
@@ -10,12 +10,12 @@ use lib.Seq.{drop-drop, drop-nil}
 use Rattle.spec.specs.Basics.{pick}
 use Rattle.spec.specs.Grammar.Characters.{Text}
 use Rattle.spec.specs.Grammar.Languages.{Lang}
-use Rattle.spec.specs.Reading.Readers.{ok, Reader, _>>_, at-end, Result, err, on-ok, past}
+use Rattle.spec.specs.Reading.Readers.{ok, Reader, _>>_, at-end}
 use Rattle.spec.specs.Reading.Refusals.{Refusal}
 use Rattle.spec.proofs.Agreement.Algebra.{ε}
 use Rattle.spec.proofs.Agreement.Reads.{Took, Reads, Next, drop-took}
 use Rattle.spec.proofs.Agreement.Signs.{kind, Class}
-use Rattle.spec.proofs.Base.Results.{err-ok, ok-inj}
+use Rattle.spec.proofs.Base.Results.{err-ok, ok-inj, then-ok}
 use Rattle.spec.proofs.Base.Tests.{leb-true}
 
 -- the text's end
@@ -48,16 +48,9 @@ abbrev pub Ends : Reader → Type 0
 Ends r = (w : List ℕ) (k : ℕ) → r w ≡ ok k → drop k w ≡ []
 
 pub ends-seq : (r s : Reader) → Ends s → Ends (r >> s)
-unfolding _>>_
-ends-seq r s h w n e = by-first (r w) e
-  where
-    by-second : (k : ℕ) (a : Result) → s (drop k w) ≡ a → past k a ≡ ok n → drop n w ≡ []
-    by-second k (err m) f g = absurd (err-ok m n g)
-    by-second k (ok j) f g = ap (λ (m : ℕ). drop m w) (sym (ok-inj (k + j) n g)) ∙ sym (drop-drop j k w) ∙ h (drop k w) j f
-
-    by-first : (a : Result) → on-ok a (λ k. past k (s (drop k w))) ≡ ok n → drop n w ≡ []
-    by-first (err m) g = absurd (err-ok m n g)
-    by-first (ok k) g = by-second k (s (drop k w)) refl g
+ends-seq r s h w n e =
+    let (k, j, _, g, l) = then-ok r s w n e in
+    ap (λ (m : ℕ). drop m w) (sym l) ∙ sym (drop-drop j k w) ∙ h (drop k w) j g
 
 pub ends-at-end : (n : Refusal) → Ends (at-end n)
 unfolding at-end

@@ -1,8 +1,12 @@
 -- Answers of readers: what they can't be at once, and numbers. Assumes nothing.
+use mathlib.Core.Bool.{Bool, true, false}
+use mathlib.Core.List.{List}
 use mathlib.Core.Path.{_≡_, refl, ap}
 use Prim.Native.Nat.{ℕ, _+_, _<_}
 use native.Mathlib.Omega.{arith}
-use Rattle.spec.specs.Reading.Readers.{Result, ok, err, past}
+use lib.ListN.{drop}
+use Rattle.spec.specs.Basics.{pick}
+use Rattle.spec.specs.Reading.Readers.{Result, ok, err, past, Reader, on-ok, _>>_, refuse}
 use Rattle.spec.specs.Reading.Refusals.{Refusal, number, too-long, not-utf8, no-space, bad-name, has-colon, no-literal, unterminated, unexpected, trailing, bad-pubid, reserved-target, double-hyphen, bad-connector, less-than, bad-reference, illegal-reference, bad-value, illegal-char, section-end, too-deep, out-of-order}
 
 pub err-ok : (n : Refusal) (k : ℕ) → err n ≡ ok k → ⊥
@@ -16,9 +20,45 @@ pub past-past : (j k : ℕ) (a : Result) → past j (past k a) ≡ past (j + k) 
 past-past j k (ok n) = ap ok (let e : j + (k + n) ≡ j + k + n = omega arith in e)
 past-past j k (err n) = refl
 
-pub past-ok : (j k : ℕ) (a : Result) → past j a ≡ ok k → (m : ℕ) × (a ≡ ok m)
-past-ok j k (ok m) e = (m, refl)
+pub past-ok : (j k : ℕ) (a : Result) → past j a ≡ ok k → (m : ℕ) × (a ≡ ok m) × (j + m ≡ k)
+past-ok j k (ok m) e = (m, refl, ok-inj (j + m) k e)
 past-ok j k (err n) e = absurd (err-ok n k e)
+
+-- How an answer came about, that is `ok`: what was taken first, and what then.
+pub on-ok-ok : (a : Result) (f : ℕ → Result) (k : ℕ) → on-ok a f ≡ ok k → (j : ℕ) × (a ≡ ok j) × (f j ≡ ok k)
+on-ok-ok (ok j) f k e = (j, refl, e)
+on-ok-ok (err n) f k e = absurd (err-ok n k e)
+
+pub then-ok : (r q : Reader) (w : List ℕ) (k : ℕ) → (r >> q) w ≡ ok k → (i j : ℕ) × (r w ≡ ok i) × (q (drop i w) ≡ ok j) × (i + j ≡ k)
+unfolding _>>_
+then-ok r q w k e =
+    let (i, f, g) = on-ok-ok (r w) (λ i. past i (q (drop i w))) k e in
+    let (j, h, l) = past-ok i k (q (drop i w)) g in
+    (i, j, f, h, l)
+
+-- by a test that chooses between two values, and between two readers
+pub by-pick : {A C : Type 0} (t : Bool) (x y z : A) → (t ≡ true → x ≡ z → C) → (t ≡ false → y ≡ z → C) → pick t x y ≡ z → C
+by-pick true x y z f g e = f refl e
+by-pick false x y z f g e = g refl e
+
+pub by-reader : {C : Type 0} (t : Bool) (r q : Reader) (w : List ℕ) (a : Result) → (t ≡ true → r w ≡ a → C) → (t ≡ false → q w ≡ a → C) → pick t r q w ≡ a → C
+by-reader true r q w a f g e = f refl e
+by-reader false r q w a f g e = g refl e
+
+-- and where one of the two refuses: the test came out the other way
+pub unless-refused : (n : Refusal) (t : Bool) (a : Result) (k : ℕ) → pick t (err n) a ≡ ok k → (t ≡ false) × (a ≡ ok k)
+unless-refused n t a k e = by-pick t (err n) a (ok k) (λ _ f. absurd (err-ok n k f)) (λ f g. (f, g)) e
+
+pub else-refused : (n : Refusal) (t : Bool) (a : Result) (k : ℕ) → pick t a (err n) ≡ ok k → (t ≡ true) × (a ≡ ok k)
+else-refused n t a k e = by-pick t a (err n) (ok k) (λ f g. (f, g)) (λ _ f. absurd (err-ok n k f)) e
+
+pub unless-refuses : (n : Refusal) (t : Bool) (q : Reader) (w : List ℕ) (k : ℕ) → pick t (refuse n) q w ≡ ok k → (t ≡ false) × (q w ≡ ok k)
+unfolding refuse
+unless-refuses n t q w k e = by-reader t (refuse n) q w (ok k) (λ _ f. absurd (err-ok n k f)) (λ f g. (f, g)) e
+
+pub else-refuses : (n : Refusal) (t : Bool) (r : Reader) (w : List ℕ) (k : ℕ) → pick t r (refuse n) w ≡ ok k → (t ≡ true) × (r w ≡ ok k)
+unfolding refuse
+else-refuses n t r w k e = by-reader t r (refuse n) w (ok k) (λ f g. (f, g)) (λ _ f. absurd (err-ok n k f)) e
 
 -- no refusal's number is 0
 pub number-pos : (r : Refusal) → 0 < number r

@@ -7,10 +7,13 @@ use Prim.Native.Nat.{ℕ, suc, _+_, _*_, _/_, _%_, _≤_, _<_}
 use native.Mathlib.Omega.{arith}
 use borrow.Author.Tests.{eqb-false}
 use lib.Dec.{leb, ltb, eqb}
-use lib.ListN.{length, getD, drop}
+use lib.ListN.{length, getD, drop, length-append}
 use Rattle.spec.specs.Basics.{pick, within}
 use Rattle.spec.specs.Grammar.Utf8.{scalar, encode}
-use Rattle.spec.specs.Reading.Utf8.{point, no-point, tail, two, lead-3, three, lead-4, four, decode4, decode1}
+use Rattle.spec.specs.Reading.Readers.{ok, err, of-point, char}
+use Rattle.spec.specs.Reading.Refusals.{Refusal}
+use Rattle.spec.specs.Reading.Utf8.{point, no-point, tail, two, lead-3, three, lead-4, four, decode4, decode1, Point}
+use Rattle.spec.proofs.Base.Results.{err-ok, else-refused, by-pick}
 use Rattle.spec.proofs.Base.Tests.{decide, leb-yes, leb-no, leb-true, leb-false, eqb-true, eqb-no, and-left, and-right, or-cases, within-yes, within-high, within-lo, within-hi}
 use Rattle.spec.proofs.Base.Places.{byte-in, drop-at}
 
@@ -306,10 +309,6 @@ module _ (c k : ℕ) (w v : List ℕ) (a b : ℕ) where
       read-as c k n 4 w v (a ∷ b ∷ d ∷ g ∷ []) e (scalar-is n (λ j. omega arith) (omega arith))
       (encode-4 n (omega arith) ∙ (λ i. p i ∷ q i ∷ r i ∷ t i ∷ [])) refl s
 
-by-pick : {A C : Type 0} (t : Bool) (x y z : A) → (t ≡ true → x ≡ z → C) → (y ≡ z → C) → pick t x y ≡ z → C
-by-pick true x y z f g e = f refl e
-by-pick false x y z f g e = g e
-
 pub decode-read : (c k : ℕ) (w : List ℕ) → decode1 w ≡ point c k → Read c k w
 unfolding decode1 decode4
 decode-read c k [] e = absurd (no-point≢point e)
@@ -318,16 +317,34 @@ decode-read c k (a ∷ w) e =
     (λ t e.
     let h : a < 0x80 = leb-true (suc a) 0x80 t in
     read-as c k a 1 (a ∷ w) w (a ∷ []) e (scalar-is a (λ j. omega arith) (omega arith)) (encode-1 a h) refl refl)
-    (by-pick (two a (getD w 0 0)) (point _ 2) _ _
+    (λ _. by-pick (two a (getD w 0 0)) (point _ 2) _ _
     (λ t e.
     let h = tail-in w 0 (and-right (within 0xC2 0xDF a) (tail (getD w 0 0)) t) in
     read-2 c k (a ∷ w) (drop 1 w) a (getD w 0 0) (rw (← drop-at w 0 h)) t e)
-    (by-pick (three a (getD w 0 0) (getD w 1 0)) (point _ 3) _ _
+    (λ _. by-pick (three a (getD w 0 0) (getD w 1 0)) (point _ 3) _ _
     (λ t e.
     let h = tail-in w 1 (and-right (lead-3 a (getD w 0 0)) (tail (getD w 1 0)) t) in
     read-3 c k (a ∷ w) (drop 2 w) a (getD w 0 0) (getD w 1 0) (rw (← drop-at w 1 h, ← drop-at w 0 (omega arith))) t e)
-    (by-pick (four a (getD w 0 0) (getD w 1 0) (getD w 2 0)) (point _ 4) no-point _
+    (λ _. by-pick (four a (getD w 0 0) (getD w 1 0) (getD w 2 0)) (point _ 4) no-point _
     (λ t e.
     let h = tail-in w 2 (and-right (lead-4 a (getD w 0 0) && tail (getD w 1 0)) (tail (getD w 2 0)) t) in
     read-4 c k (a ∷ w) (drop 3 w) a (getD w 0 0) (getD w 1 0) (getD w 2 0) (rw (← drop-at w 2 h, ← drop-at w 1 (omega arith), ← drop-at w 0 (omega arith))) t e)
-    (λ e. absurd (no-point≢point e))))) e
+    (λ _ e. absurd (no-point≢point e))))) e
+
+-- one character: what it took was a code point of the class
+pub char-point : (p : ℕ → Bool) (n : Refusal) (w : List ℕ) (k : ℕ) → char p n w ≡ ok k → (c : ℕ) × (decode1 w ≡ point c k) × (p c ≡ true)
+unfolding char
+char-point p n w k = go (decode1 w) refl
+  where
+    go : (x : Point) → decode1 w ≡ x → of-point x (λ c k. pick (p c) (ok k) (err n)) (err n) ≡ ok k → (c : ℕ) × (decode1 w ≡ point c k) × (p c ≡ true)
+    go (point c j) e g = let (f, h) = else-refused n (p c) (ok j) k g in (c, cc, f)
+    go no-point e g = absurd (err-ok n k g)
+
+-- its bytes, one or more, stand in the text
+pub point-size : (c k : ℕ) (w : List ℕ) → decode1 w ≡ point c k → (0 < k) × (k ≤ length w)
+point-size c k w e =
+    let r : Read c k w = decode-read c k w e in
+    let n = encode-nonempty c (r .is-scalar) in
+    let l = ap length (r .split) ∙ length-append (encode c) (r .rest) in
+    let s = r .size in
+    (omega arith, omega arith)

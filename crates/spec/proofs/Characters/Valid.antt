@@ -12,37 +12,15 @@ use Rattle.spec.specs.Basics.{pick}
 use Rattle.spec.specs.Grammar.Utf8.{scalar, encode}
 use Rattle.spec.specs.Grammar.Languages.{Ch, Star, end, more, any}
 use Rattle.spec.specs.Grammar.Characters.{Text}
-use Rattle.spec.specs.Reading.Refusals.{Refusal, too-long, not-utf8}
+use Rattle.spec.specs.Reading.Refusals.{too-long, not-utf8}
 use Rattle.spec.specs.Reading.Utf8.{Point, point, no-point, decode1}
-use Rattle.spec.specs.Reading.Readers.{ok, err, past, of-point, char}
+use Rattle.spec.specs.Reading.Readers.{ok, err, past, char}
 use Rattle.spec.specs.Reading.Source.{utf8, limit, admit}
 use Rattle.spec.proofs.Base.Tests.{T→true, true→T, leb-no, leb-false}
-use Rattle.spec.proofs.Characters.Utf8.{Read, decode-read, decode-encode, encode-nonempty, no-point≢point}
+use Rattle.spec.proofs.Characters.Utf8.{Read, decode-read, decode-encode, no-point≢point, point-size}
 use Rattle.spec.proofs.Base.Results.{err-ok}
 use Rattle.spec.proofs.Base.Somes.{some-char}
 use Rattle.spec.proofs.Base.Loops.{through-end, through-turn, through-refused}
-
--- one character: what it took was a code point of the class
-pub char-point : (p : ℕ → Bool) (n : Refusal) (w : List ℕ) (k : ℕ) → char p n w ≡ ok k → (c : ℕ) × ((decode1 w ≡ point c k) × (p c ≡ true))
-unfolding char
-char-point p n w k = go (decode1 w) refl
-  where
-    by-class : (c j : ℕ) (t : Bool) → p c ≡ t → decode1 w ≡ point c j → pick t (ok j) (err n) ≡ ok k → (c : ℕ) × ((decode1 w ≡ point c k) × (p c ≡ true))
-    by-class c j true f e g = (c, (cc, f))
-    by-class c j false f e g = absurd (err-ok n k g)
-
-    go : (x : Point) → decode1 w ≡ x → of-point x (λ c k. pick (p c) (ok k) (err n)) (err n) ≡ ok k → (c : ℕ) × ((decode1 w ≡ point c k) × (p c ≡ true))
-    go (point c j) e g = by-class c j (p c) refl e g
-    go no-point e g = absurd (err-ok n k g)
-
--- the character's bytes, one or more, stand in the text
-pub point-size : (c k : ℕ) (w : List ℕ) → decode1 w ≡ point c k → (0 < k) × (k ≤ length w)
-point-size c k w e =
-    let r : Read c k w = decode-read c k w e in
-    let n = encode-nonempty c (r .is-scalar) in
-    let l = ap length (r .split) ∙ length-append (encode c) (r .rest) in
-    let s = r .size in
-    (omega arith, omega arith)
 
 -- the text's end, one code point, and what is none
 pub utf8-end : utf8 [] ≡ ok 0

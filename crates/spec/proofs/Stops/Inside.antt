@@ -1,7 +1,7 @@
 -- Readers take no more bytes than there are, by how they are made. Assumes nothing.
 use mathlib.Core.Bool.{Bool, true, false, _||_, true≢false}
 use mathlib.Core.List.{List, [], _∷_}
-use mathlib.Core.Path.{_≡_, refl, sym, ap, _∙_}
+use mathlib.Core.Path.{_≡_, refl, sym}
 use Prim.Native.Nat.{ℕ, zero, suc, _+_, _≤_, _<_}
 use Prim.Native.String.{String}
 use native.Mathlib.Omega.{arith}
@@ -30,7 +30,7 @@ use Rattle.spec.specs.Reading.Dtd.{
   finish-decl,
   parse-markup-decl,
 }
-use Rattle.spec.proofs.Base.Results.{err-ok, ok-inj, past-ok}
+use Rattle.spec.proofs.Base.Results.{err-ok, ok-inj, past-ok, then-ok, on-ok-ok, by-reader, else-refused, unless-refused, else-refuses}
 use Rattle.spec.proofs.Base.Tests.{and-right}
 use Rattle.spec.proofs.Wellformed.LongestName.{name-within}
 
@@ -71,13 +71,11 @@ body-within zero k (b ∷ w) e = by-end (one-of ">" b) e (λ p j. body-within p 
     by-end : (t : Bool) → pick t (ok 0) (past 1 (take-decl-body (pick (one-of "\"'" b) b 0) w)) ≡ ok k → ((p j : ℕ) → take-decl-body p w ≡ ok j → j < length w) → k < suc (length w)
     by-end true f ih = let z : 0 ≡ k = ok-inj 0 k f in omega arith
     by-end false f ih =
-        let (m, g) = past-ok 1 k (take-decl-body (pick (one-of "\"'" b) b 0) w) f in
-        let z : 1 + m ≡ k = ok-inj (1 + m) k (sym (ap (past 1) g) ∙ f) in
+        let (m, g, z) = past-ok 1 k (take-decl-body (pick (one-of "\"'" b) b 0) w) f in
         let l = ih (pick (one-of "\"'" b) b 0) m g in
         omega arith
 body-within (suc q) k (b ∷ w) e =
-    let (m, g) = past-ok 1 k (take-decl-body (pick (eqb b (suc q)) 0 (suc q)) w) e in
-    let z : 1 + m ≡ k = ok-inj (1 + m) k (sym (ap (past 1) g) ∙ e) in
+    let (m, g, z) = past-ok 1 k (take-decl-body (pick (eqb b (suc q)) 0 (suc q)) w) e in
     let l = body-within (pick (eqb b (suc q)) 0 (suc q)) m w g in
     omega arith
 
@@ -100,60 +98,52 @@ inside-end n = record { inside = go }
 
 pub inside-word : (p : List ℕ) (n : Refusal) → Inside (word-of p n)
 unfolding word-of
-inside-word p n = record { inside = λ w. go w (starts p w) refl }
-  where
-    go : (w : List ℕ) (t : Bool) → starts p w ≡ t → (k : ℕ) → pick t (ok (length p)) (err n) ≡ ok k → k ≤ length w
-    go w true f k e = let z = ok-inj (length p) k e in let y = starts-short p w f in omega arith
-    go w false f k e = absurd (err-ok n k e)
+inside-word p n = record {
+  inside = λ w k e.
+      let (f, g) = else-refused n (starts p w) (ok (length p)) k e in
+      let z = ok-inj (length p) k g in
+      let y = starts-short p w f in
+      omega arith;
+}
 
 inside-choose : (t : List ℕ → Bool) (A B : Reader) → Inside A → Inside B → Inside (choose t A B)
 unfolding choose
-inside-choose t A B p q = record { inside = λ w. go (t w) w }
-  where
-    go : (x : Bool) (w : List ℕ) (k : ℕ) → pick x A B w ≡ ok k → k ≤ length w
-    go true w k e = p .inside w k e
-    go false w k e = q .inside w k e
+inside-choose t A B p q = record { inside = λ w k. by-reader (t w) A B w (ok k) (λ _. p .inside w k) (λ _. q .inside w k) }
 
 inside-on : (s : String) (A B : Reader) → Inside A → Inside B → Inside (on s A B)
 unfolding on
 inside-on s A B p q = inside-choose (starts (ascii s)) A B p q
 
 inside-then : (A B : Reader) → Inside A → Inside B → Inside (A >> B)
-unfolding _>>_
-inside-then A B p q = record { inside = λ w. first w (A w) refl }
-  where
-    second : (w : List ℕ) (j : ℕ) → j ≤ length w → (y : Result) → B (drop j w) ≡ y → (k : ℕ) → past j y ≡ ok k → k ≤ length w
-    second w j h (ok m) f k e = let z : j + m ≡ k = ok-inj (j + m) k e in let y = q .inside (drop j w) m f in omega (arith, length-drop j w)
-    second w j h (err n) f k e = absurd (err-ok n k e)
-
-    first : (w : List ℕ) (x : Result) → A w ≡ x → (k : ℕ) → on-ok x (λ j. past j (B (drop j w))) ≡ ok k → k ≤ length w
-    first w (ok j) f k e = second w j (p .inside w j f) (B (drop j w)) refl k e
-    first w (err n) f k e = absurd (err-ok n k e)
+inside-then A B p q = record {
+  inside = λ w k e.
+      let (i, j, f, g, l) = then-ok A B w k e in
+      let y = p .inside w i f in
+      let z = q .inside (drop i w) j g in
+      omega (arith, length-drop i w);
+}
 
 inside-required : (n : Refusal) (A : Reader) → Inside A → Inside (required n A)
 unfolding required
-inside-required n A p = record { inside = λ w. first w (A w) refl }
-  where
-    second : (w : List ℕ) (j : ℕ) → j ≤ length w → (t : Bool) (k : ℕ) → pick t (err n) (ok j) ≡ ok k → k ≤ length w
-    second w j h true k e = absurd (err-ok n k e)
-    second w j h false k e = let z = ok-inj j k e in omega arith
-
-    first : (w : List ℕ) (x : Result) → A w ≡ x → (k : ℕ) → on-ok x (λ j. pick (eqb j 0) (err n) (ok j)) ≡ ok k → k ≤ length w
-    first w (ok j) f k e = second w j (p .inside w j f) (eqb j 0) k e
-    first w (err m) f k e = absurd (err-ok m k e)
+inside-required n A p = record {
+  inside = λ w k e.
+      let (j, f, g) = on-ok-ok (A w) (λ j. pick (eqb j 0) (err n) (ok j)) k e in
+      let z = ok-inj j k (unless-refused n (eqb j 0) (ok j) k g .1) in
+      let y = p .inside w j f in
+      omega arith;
+}
 
 inside-up-to : (s : String) (n : Refusal) (check : List ℕ → Result) → Inside (up-to s n check)
-unfolding up-to refuse
-inside-up-to s n check = record { inside = λ w. by-test w (contains (ascii s) w) refl }
-  where
-    by-check : (w : List ℕ) → contains (ascii s) w ≡ true → (x : Result) (k : ℕ) → on-ok x (λ _. ok (before (ascii s) w + length (ascii s))) ≡ ok k → k ≤ length w
-    by-check w f (ok j) k e = let z = ok-inj (before (ascii s) w + length (ascii s)) k e in let y = before-short (ascii s) w f in omega arith
-    by-check w f (err m) k e = absurd (err-ok m k e)
-
-    by-test : (w : List ℕ) (t : Bool) → contains (ascii s) w ≡ t → (k : ℕ)
-        → pick t (λ x. on-ok (check (take (before (ascii s) w) w)) (λ _. ok (before (ascii s) w + length (ascii s)))) (refuse n) w ≡ ok k → k ≤ length w
-    by-test w true f k e = by-check w f (check (take (before (ascii s) w) w)) k e
-    by-test w false f k e = absurd (err-ok n k e)
+unfolding up-to
+inside-up-to s n check = record {
+  inside = λ w k e.
+      let n₁ : ℕ = before (ascii s) w in
+      let (f, g) = else-refuses n (contains (ascii s) w) (λ x. on-ok (check (take n₁ w)) (λ _. ok (n₁ + length (ascii s)))) w k e in
+      let (j, _, h) = on-ok-ok (check (take n₁ w)) (λ _. ok (n₁ + length (ascii s))) k g in
+      let z = ok-inj (n₁ + length (ascii s)) k h in
+      let y = before-short (ascii s) w f in
+      omega arith;
+}
 
 -- the readers of a DOCTYPE
 pub inside-skip : Inside skip-s
@@ -191,16 +181,14 @@ module _ (D : Dialect) where
 
   inside-finish : (pe : Bool) (body : Reader) → Inside (finish-decl D pe body)
   unfolding finish-decl
-  inside-finish pe body = record { inside = λ w. first w (take-decl-body 0 w) refl }
-    where
-      second : (w : List ℕ) (j : ℕ) → j < length w → (x : Result) (k : ℕ) → on-ok x (λ _. ok (j + 1)) ≡ ok k → k ≤ length w
-      second w j h (ok m) k e = let z = ok-inj (j + 1) k e in omega arith
-      second w j h (err m) k e = absurd (err-ok m k e)
-
-      first : (w : List ℕ) (x : Result) → take-decl-body 0 w ≡ x → (k : ℕ)
-          → on-ok x (λ j. on-ok (pick (pe || has-pe-reference D (take j w)) nothing body (take j w)) (λ _. ok (j + 1))) ≡ ok k → k ≤ length w
-      first w (ok j) f k e = second w j (body-within 0 j w f) (pick (pe || has-pe-reference D (take j w)) nothing body (take j w)) k e
-      first w (err n) f k e = absurd (err-ok n k e)
+  inside-finish pe body = record {
+    inside = λ w k e.
+        let (j, f, g) = on-ok-ok (take-decl-body 0 w) (λ j. on-ok (pick (pe || has-pe-reference D (take j w)) nothing body (take j w)) (λ _. ok (j + 1))) k e in
+        let (_, _, h) = on-ok-ok (pick (pe || has-pe-reference D (take j w)) nothing body (take j w)) (λ _. ok (j + 1)) k g in
+        let z = ok-inj (j + 1) k h in
+        let y = body-within 0 j w f in
+        omega arith;
+  }
 
   inside-declaration : (s : String) (n : Refusal) (pe : Bool) (body : Reader) → Inside (word-of (ascii s) n >> finish-decl D pe body)
   inside-declaration s n pe body = inside-then _ _ (inside-word (ascii s) n) (inside-finish pe body)

@@ -6,7 +6,6 @@ use mathlib.Core.Path.{_≡_, refl, sym, ap, _∙_}
 use Prim.Native.Nat.{ℕ, zero, suc, _+_, _-_, _≤_}
 use native.Mathlib.Omega.{arith}
 use lib.ListN.{length, drop, length-drop}
-use lib.Seq.{drop-drop, drop-nil}
 use Rattle.spec.specs.Basics.{pick}
 use Rattle.spec.specs.Grammar.Languages.{ascii}
 use Rattle.spec.specs.Grammar.Names.{Dialect}
@@ -15,7 +14,7 @@ use Rattle.spec.specs.Reading.Readers.{Result, ok, err, Reader, on-ok, p
 use Rattle.spec.specs.Reading.Wellformed.{name}
 use Rattle.spec.specs.Reading.Dtd.{skip-s, parse-pe-reference, parse-markup-decl, subset-fuel, parse-internal-subset, check-doctype}
 use Rattle.spec.specs.Reading.Stops.{Progress, passed, stopped, further, of-part, part, on-passed, _⊳_, subset-progress, doctype-progress, place-of, stop-place}
-use Rattle.spec.proofs.Base.Results.{err-ok, ok-inj}
+use Rattle.spec.proofs.Agreement.Whole.{Ends, ends-seq, ends-at-end}
 use Rattle.spec.proofs.Stops.Inside.{Inside, inside-skip, inside-word, inside-end, inside-name, inside-id-part, inside-reference, inside-markup}
 
 -- what the progress is, for what the reader answers on w: the same bytes are passed, or it stops at a place of w
@@ -113,39 +112,15 @@ stops-where-refused D w r e = let a = tracks-doctype D .alike w in (rw e at a)
 pub passes-where-accepted : (D : Dialect) (w : List ℕ) (k : ℕ) → check-doctype D w ≡ ok k → doctype-progress D w ≡ passed k
 passes-where-accepted D w k e = let a = tracks-doctype D .alike w in (rw e at a) .0
 
--- a reader that takes all that is left, where it refuses nothing
-record Ends (r : Reader) : Type 0 where
-  ends : (w : List ℕ) (k : ℕ) → r w ≡ ok k → drop k w ≡ []
-
-ends-at-end : (n : Refusal) → Ends (at-end n)
-unfolding at-end
-ends-at-end n = record { ends = go }
-  where
-    go : (w : List ℕ) (k : ℕ) → at-end n w ≡ ok k → drop k w ≡ []
-    go [] k e = drop-nil k
-    go (b ∷ w) k e = absurd (err-ok n k e)
-
-ends-then : (r q : Reader) → Ends q → Ends (r >> q)
-unfolding _>>_
-ends-then r q t = record { ends = λ w. first w (r w) }
-  where
-    second : (w : List ℕ) (j : ℕ) (y : Result) → q (drop j w) ≡ y → (k : ℕ) → past j y ≡ ok k → drop k w ≡ []
-    second w j (ok m) f k e = ap (λ (i : ℕ). drop i w) (sym (ok-inj (j + m) k e)) ∙ sym (drop-drop m j w) ∙ t .ends (drop j w) m f
-    second w j (err n) f k e = absurd (err-ok n k e)
-
-    first : (w : List ℕ) (x : Result) (k : ℕ) → on-ok x (λ j. past j (q (drop j w))) ≡ ok k → drop k w ≡ []
-    first w (ok j) k e = second w j (q (drop j w)) refl k e
-    first w (err n) k e = absurd (err-ok n k e)
-
 ends-doctype : (D : Dialect) → Ends (check-doctype D)
 unfolding check-doctype
-ends-doctype D = ends-then _ _ (ends-then _ _ (ends-then _ _ (ends-then _ _ (ends-then _ _ (ends-at-end trailing)))))
+ends-doctype D = ends-seq _ _ (ends-seq _ _ (ends-seq _ _ (ends-seq _ _ (ends-seq _ _ (ends-at-end trailing)))))
 
 -- so the place is the text's end, where the text is accepted
 pub end-where-accepted : (D : Dialect) (w : List ℕ) (k : ℕ) → check-doctype D w ≡ ok k → stop-place D w ≡ length w
 unfolding stop-place
 end-where-accepted D w k e =
     let a : (doctype-progress D w ≡ passed k) × (k ≤ length w) = (let x = tracks-doctype D .alike w in (rw e at x)) in
-    let l : length w - k ≡ 0 = sym (length-drop k w) ∙ ap length (ends-doctype D .ends w k e) in
+    let l : length w - k ≡ 0 = sym (length-drop k w) ∙ ap length (ends-doctype D w k e) in
     let z : k ≡ length w = (let y = a .1 in omega arith) in
     ap place-of (a .0) ∙ z

@@ -66,7 +66,7 @@ chars-sound {w} k (more x y f c s) e = go (legal-byte (x ++ y)) refl (λ j. char
     go (err n) g ih = absurd (err-ok n k (sym (through-none legal-byte (x ++ y) n size g) ∙ ap (throughout legal-byte) (sym f) ∙ e))
     go (ok j) g ih =
         let i = reclass c (legal-char x y j c g) in
-        let (m, r) = past-ok (length x) k (throughout legal-byte y) (sym (over-char legal-byte some-legal legal-tail x y i (legal-takes x y i)) ∙ ap (throughout legal-byte) (sym f) ∙ e) in
+        let (m, r, _) = past-ok (length x) k (throughout legal-byte y) (sym (over-char legal-byte some-legal legal-tail x y i (legal-takes x y i)) ∙ ap (throughout legal-byte) (sym f) ∙ e) in
         more x y f i (ih m r)
 
 chars-complete : {w : List ℕ} → Star (Ch xml-char) w → throughout legal-byte w ≡ ok (length w)

@@ -17,8 +17,7 @@ use Rattle.spec.specs.Reading.Wellformed.{parts, name, name-length}
 use Rattle.spec.proofs.Base.Tests.{T→true, true→T}
 use Rattle.spec.proofs.Base.Results.{err-ok}
 use Rattle.spec.proofs.Base.Loops.{while-turn, while-stop}
-use Rattle.spec.proofs.Characters.Utf8.{Read, decode-read, decode-encode}
-use Rattle.spec.proofs.Characters.Valid.{char-point, point-size}
+use Rattle.spec.proofs.Characters.Utf8.{Read, decode-read, decode-encode, char-point, point-size}
 
 -- k bytes of w are of the language, and no front part of w that is of the language is longer
 pub record Takes (L : Lang) (w : List ℕ) (k : ℕ) : Type 0 where
@@ -60,7 +59,7 @@ module _ (p : ℕ → Bool) (n : Refusal) where
 
     begins-ok : (k : ℕ) → char p n w ≡ ok k → begins p w ≡ true
     unfolding begins
-    begins-ok k e = let (c, (d, f)) = char-point p n w k e in rw d f
+    begins-ok k e = let (c, d, f) = char-point p n w k e in rw d f
 
     begins-err : char p n w ≡ err n → begins p w ≡ false
     begins-err e = go front
@@ -79,7 +78,7 @@ module _ (p : ℕ → Bool) (n : Refusal) where
   -- and what is taken is one
   char-taken : (w : List ℕ) (k : ℕ) → char p n w ≡ ok k → Ch p (take k w)
   char-taken w k e =
-      let (c, (d, f)) = char-point p n w k e in
+      let (c, d, f) = char-point p n w k e in
       let r : Read c k w = decode-read c k w d in
       record {
         char = c;
@@ -89,7 +88,7 @@ module _ (p : ℕ → Bool) (n : Refusal) where
       }
 
   char-size : (w : List ℕ) (k : ℕ) → char p n w ≡ ok k → (0 < k) × (k ≤ length w)
-  char-size w k e = let (c, (d, f)) = char-point p n w k e in point-size c k w d
+  char-size w k e = let (c, d, f) = char-point p n w k e in point-size c k w d
 
   -- a character of the class, and after it what L derives
   module _ (L : Lang) (w : List ℕ) where

@@ -82,7 +82,7 @@ module _ {S : Reader} {p : ℕ → Bool} {Q B : List ℕ → Type 0} (st : Step 
 
       -- what is left after j bytes
       rest-of : (z : List ℕ) (j : ℕ) → throughout S w ≡ past j (throughout S z) → (m : ℕ) × (throughout S z ≡ ok m)
-      rest-of z j g = past-ok j k (throughout S z) (sym g ∙ e)
+      rest-of z j g = let (m, f, _) = past-ok j k (throughout S z) (sym g ∙ e) in (m, f)
 
       by-ref : ((z : List ℕ) (m : ℕ) → length z ≤ d → Text z → Q z → throughout S z ≡ ok m → Walked p B z) → starts AR w ≡ true → (a : Result) → char-ref w ≡ a → Walked p B w
       by-ref ih a (err n) g = absurd (err-ok n k (sym (through-none S w n (let l = size in let z = some-x in omega arith) (st .at-ref w a ∙ g)) ∙ e))
