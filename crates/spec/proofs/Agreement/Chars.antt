@@ -3,7 +3,7 @@ use mathlib.Core.Logic
 use mathlib.Core.Bool.{Bool, true, false}
 use mathlib.Core.List.{List, [], _∷_, _++_}
 use mathlib.Core.Logic.{_⊎_}
-use mathlib.Core.Path.{_≡_, refl, _∙_}
+use mathlib.Core.Path.{_≡_, refl}
 use Prim.Native.Nat.{ℕ, suc, _+_, _<_, _/_, _≤_}
 use native.Mathlib.Omega.{arith}
 use lib.Dec.{T, ltb}
@@ -12,15 +12,14 @@ use Rattle.spec.specs.Basics.{pick}
 use Rattle.spec.specs.Grammar.Characters.{Text}
 use Rattle.spec.specs.Grammar.Languages.{Ch, inl, inr, any}
 use Rattle.spec.specs.Grammar.Utf8.{scalar, encode}
-use Rattle.spec.specs.Reading.Readers.{ok, err, begins, char, of-point}
+use Rattle.spec.specs.Reading.Readers.{ok, begins, char}
 use Rattle.spec.specs.Reading.Refusals.{Refusal}
-use Rattle.spec.specs.Reading.Utf8.{decode1, Point, point, no-point}
+use Rattle.spec.specs.Reading.Utf8.{decode1}
 use Rattle.spec.proofs.Agreement.Reads.{Took, Reads, Next, Leads}
 use Rattle.spec.proofs.Agreement.Signs.{kind, Class}
-use Rattle.spec.proofs.Base.Results.{err-ok, ok-inj}
 use Rattle.spec.proofs.Base.Tests.{T→true, true→T, decide, leb-true, leb-no, leb-false}
 use Rattle.spec.proofs.Characters.Text.{text-after}
-use Rattle.spec.proofs.Characters.Utf8.{encode-nonempty, encode-1, encode-2, encode-3, encode-4, decode-1, decode-encode, decode-read, Read}
+use Rattle.spec.proofs.Characters.Utf8.{encode-nonempty, encode-1, encode-2, encode-3, encode-4, decode-1, decode-encode, decode-read, Read, char-point}
 
 -- a character has a byte or more
 pub ch-some : {p : ℕ → Bool} (u : List ℕ) → Ch p u → 0 < length u
@@ -65,24 +64,20 @@ begins-stop p q no128 small (b ∷ v) h = go (decide (ltb b 128))
 
 pub one-char : (p : ℕ → Bool) (n : Refusal) (f : Class) → ((c : ℕ) → T (p c) → T (f (sign c))) → Reads (char p n) (Ch p) (Next any) f
 unfolding char Text
-one-char p n f lead = record { sound = λ w k tw e. sound-by w k tw (decode1 w) refl e; complete = complete-by; leads = leads-by }
+one-char p n f lead = record { sound = sound-by; complete = complete-by; leads = leads-by }
   where
-    taken-by : (w : List ℕ) (k c j : ℕ) → Text w → decode1 w ≡ point c j → (t : Bool) → p c ≡ t → pick t (ok j) (err n) ≡ ok k → Took (Ch p) k w
-    taken-by w k c j tw e false g h = absurd (err-ok n k h)
-    taken-by w k c j tw e true g h =
-        let r : Read c j w = decode-read c j w e in
+    sound-by : (w : List ℕ) (k : ℕ) → Text w → char p n w ≡ ok k → Took (Ch p) k w
+    sound-by w k tw e =
+        let (c, d, g) = char-point p n w k e in
+        let r : Read c k w = decode-read c k w d in
         record {
           taken = encode c;
           rest = r .rest;
           split = r .split;
-          size = r .size ∙ ok-inj j k h;
+          size = r .size;
           holds = record { char = c; is-scalar = true→T (scalar c) (r .is-scalar); in-class = true→T (p c) g; bytes = refl };
           left = text-after c (r .rest) (r .is-scalar) (r .split) tw;
         }
-
-    sound-by : (w : List ℕ) (k : ℕ) → Text w → (x : Point) → decode1 w ≡ x → of-point x (λ c j. pick (p c) (ok j) (err n)) (err n) ≡ ok k → Took (Ch p) k w
-    sound-by w k tw no-point f e = absurd (err-ok n k e)
-    sound-by w k tw (point c j) f e = taken-by w k c j tw f (p c) refl e
 
     complete-by : (u v : List ℕ) → Ch p u → Next any v → char p n (u ++ v) ≡ ok (length u)
     complete-by u v c t = rw (c .bytes, decode-encode (c .char) v (T→true (scalar (c .char)) (c .is-scalar)), T→true (p (c .char)) (c .in-class))

@@ -10,7 +10,7 @@ use Rattle.spec.specs.Grammar.Languages.{Lang, lit, ascii, _·_, _∣_}
 use Rattle.spec.specs.Reading.Readers.{ok, Reader, nothing, refuse, starts, on}
 use Rattle.spec.specs.Reading.Refusals.{Refusal}
 use Rattle.spec.proofs.Agreement.Algebra.{no-other}
-use Rattle.spec.proofs.Agreement.Reads.{Reads, Next, alt, weaken-by, as-lang}
+use Rattle.spec.proofs.Agreement.Reads.{Reads, Next, alt, weaken-by, as-lang, took-none}
 use Rattle.spec.proofs.Agreement.Signs.{kind, Class, sub-refl, _∪_, sub-either}
 use Rattle.spec.proofs.Agreement.Words.{starts-self, starts-clash, clash, starts-lit}
 use Rattle.spec.proofs.Base.Results.{err-ok, ok-inj}
@@ -33,7 +33,7 @@ on-lit s c a b = on-begun s c (λ u v l. ap (λ (x : List ℕ). starts (ascii s)
 pub empty-reads : (p : Class) → Reads nothing (λ w. w ≡ []) (Next p) p
 unfolding nothing
 empty-reads p = record {
-  sound = λ w k tw e. record { taken = []; rest = w; split = refl; size = ok-inj 0 k e; holds = refl; left = tw };
+  sound = λ w k tw e. took-none (ok-inj 0 k e) tw refl;
   complete = λ u v e t. ap (λ (x : List ℕ). ok (length x)) (sym e);
   leads = λ u v e t. subst (λ (x : List ℕ). T (p (kind (x ++ v)))) (sym e) (t .it);
 }

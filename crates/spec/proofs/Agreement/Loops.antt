@@ -1,47 +1,28 @@
 -- A reader again and again while a test holds. Assumes nothing.
 use mathlib.Core.Bool.{Bool, true, false}
-use mathlib.Core.List.{List, [], _++_, append-assoc}
-use mathlib.Core.Path.{_≡_, refl, sym, _∙_, ap}
+use mathlib.Core.List.{List, _++_, append-assoc}
+use mathlib.Core.Path.{_≡_, refl, _∙_, ap}
 use Prim.Native.Nat.{ℕ, zero, suc, _+_, _≤_, _<_}
 use native.Mathlib.Omega.{arith}
 use lib.Dec.{T}
-use lib.ListN.{length, drop, length-append}
+use lib.ListN.{length, length-append}
 use lib.Seq.{drop-append-seam}
-use Rattle.spec.specs.Basics.{pick}
-use Rattle.spec.specs.Grammar.Characters.{Text}
 use Rattle.spec.specs.Grammar.Languages.{Lang, Star, end, more}
-use Rattle.spec.specs.Reading.Readers.{Result, ok, err, Reader, on-ok, nothing, while-fuel, while, past}
-use Rattle.spec.proofs.Agreement.Reads.{Took, Sound, Complete, Leads, Reads, Next, drop-took}
+use Rattle.spec.specs.Reading.Readers.{ok, Reader, nothing, while-fuel, while, _>>_}
+use Rattle.spec.proofs.Agreement.Reads.{Sound, Complete, Leads, Reads, Next, took-as, took-none, sound-seq}
 use Rattle.spec.proofs.Agreement.Signs.{kind, Class, Sub, sub-at, _∪_, in-left, in-right}
-use Rattle.spec.proofs.Base.Results.{err-ok, ok-inj}
+use Rattle.spec.proofs.Base.Results.{ok-inj, by-reader}
 
 -- again and again
 module _ (t : List ℕ → Bool) (r : Reader) (L : Lang) where
   pub sound-while : Sound r L → (d : ℕ) → Sound (while-fuel d t r) (Star L)
-  unfolding while-fuel nothing
-  sound-while sr zero w k tw e = record { taken = []; rest = w; split = refl; size = ok-inj 0 k e; holds = end refl; left = tw }
-  sound-while sr (suc d) w k tw e = by-test (sound-while sr d) (t w) e
-    where
-      by-rest : ((x : List ℕ) (m : ℕ) → Text x → while-fuel d t r x ≡ ok m → Took (Star L) m x) → (j : ℕ) (o : Took L j w) (a : Result) → while-fuel d t r (o .rest) ≡ a → past j a ≡ ok k → Took (Star L) k w
-      by-rest ih j o (err m) f g = absurd (err-ok m k g)
-      by-rest ih j o (ok m) f g =
-          let o₂ : Took (Star L) m (o .rest) = ih (o .rest) m (o .left) f in
-          record {
-            taken = o .taken ++ o₂ .taken;
-            rest = o₂ .rest;
-            split = o .split ∙ ap (λ (x : List ℕ). o .taken ++ x) (o₂ .split) ∙ sym (append-assoc (o .taken) (o₂ .taken) (o₂ .rest));
-            size = length-append (o .taken) (o₂ .taken) ∙ (λ i. o .size i + o₂ .size i) ∙ ok-inj (j + m) k g;
-            holds = more (o .taken) (o₂ .taken) refl (o .holds) (o₂ .holds);
-            left = o₂ .left;
-          }
-
-      by-first : ((x : List ℕ) (m : ℕ) → Text x → while-fuel d t r x ≡ ok m → Took (Star L) m x) → (a : Result) → r w ≡ a → on-ok a (λ j. past j (while-fuel d t r (drop j w))) ≡ ok k → Took (Star L) k w
-      by-first ih (err m) f g = absurd (err-ok m k g)
-      by-first ih (ok j) f g = let o : Took L j w = sr w j tw f in by-rest ih j o (while-fuel d t r (o .rest)) refl (rw (drop-took o) at g)
-
-      by-test : ((x : List ℕ) (m : ℕ) → Text x → while-fuel d t r x ≡ ok m → Took (Star L) m x) → (b : Bool) → pick b (λ x. on-ok (r x) (λ j. past j (while-fuel d t r (drop j x)))) nothing w ≡ ok k → Took (Star L) k w
-      by-test ih true g = by-first ih (r w) refl g
-      by-test ih false g = record { taken = []; rest = w; split = refl; size = ok-inj 0 k g; holds = end refl; left = tw }
+  unfolding while-fuel nothing _>>_
+  sound-while sr zero w k tw e = took-none (ok-inj 0 k e) tw (end refl)
+  sound-while sr (suc d) w k tw e =
+      let ih : Sound (while-fuel d t r) (Star L) = sound-while sr d in
+      by-reader (t w) (r >> while-fuel d t r) nothing w (ok k)
+      (λ _ f. took-as (λ u c. more (c .left) (c .right) (c .split) (c .first) (c .second)) refl (sound-seq r (while-fuel d t r) L (Star L) sr ih w k tw f))
+      (λ _ f. took-none (ok-inj 0 k f) tw (end refl)) e
 
   leads-star : (F : Lang) (p q f : Class) → ((v : List ℕ) → F v → T (p (kind v))) → Leads L (Next q) f → Sub (f ∪ p) q → {u : List ℕ} (v : List ℕ) → Star L u → F v → T ((f ∪ p) (kind (u ++ v)))
   leads-star F p q f in-p ll h v (end e) x = rw e (in-right (f (kind v)) (p (kind v)) (in-p v x))

@@ -1,7 +1,7 @@
 -- A reader reads a language: what it takes belongs to the language, and it takes each text of the language whole wherever
 -- what stands after it begins with a sign of a given class. The laws of chains and choices. Assumes nothing.
 use mathlib.Core.Bool.{Bool, true, false}
-use mathlib.Core.List.{List, _++_, append-assoc}
+use mathlib.Core.List.{List, _++_, append-assoc, []}
 use mathlib.Core.Path.{_≡_, refl, sym, _∙_, ap, subst}
 use Prim.Native.Nat.{ℕ, _+_}
 use lib.Dec.{T}
@@ -12,7 +12,7 @@ use Rattle.spec.specs.Grammar.Characters.{Text}
 use Rattle.spec.specs.Grammar.Languages.{Lang, _·_, _∣_, inl, inr}
 use Rattle.spec.specs.Reading.Readers.{ok, Reader, _>>_, choose}
 use Rattle.spec.proofs.Agreement.Signs.{kind, Class, Sub, sub-at, _∪_, in-left, in-right}
-use Rattle.spec.proofs.Base.Results.{then-ok}
+use Rattle.spec.proofs.Base.Results.{then-ok, by-reader}
 
 -- what a reader took, and what is left
 pub record Took (L : Lang) (k : ℕ) (w : List ℕ) : Type 0 where
@@ -49,6 +49,14 @@ next {p} {q} s {v} n = record { it = sub-at p q s v (n .it) }
 -- after what was taken, what is left
 pub drop-took : {L : Lang} {k : ℕ} {w : List ℕ} (t : Took L k w) → drop k w ≡ t .rest
 drop-took {k = k} {w = w} t = ap (drop k) (t .split) ∙ drop-at (t .taken) (t .rest) k (t .size)
+
+-- the same part as a text of another language, and by another name of its length
+pub took-as : {L M : Lang} {j k : ℕ} {w : List ℕ} → ((u : List ℕ) → L u → M u) → j ≡ k → Took L j w → Took M k w
+took-as f e t = record { taken = t .taken; rest = t .rest; split = t .split; size = t .size ∙ e; holds = f (t .taken) (t .holds); left = t .left }
+
+-- nothing is taken
+pub took-none : {L : Lang} {k : ℕ} {w : List ℕ} → 0 ≡ k → Text w → L [] → Took L k w
+took-none {w = w} e tw l = record { taken = []; rest = w; split = refl; size = e; holds = l; left = tw }
 
 -- one after the other, where the second may use how the first ended
 pub sound-after : (P : List ℕ → Type 0) (r s : Reader) (L M : Lang) → Sound r L → ((w : List ℕ) (k : ℕ) → r w ≡ ok k → P (drop k w)) → ((w : List ℕ) (k : ℕ) → P w → Text w → s w ≡ ok k → Took M k w) → Sound (r >> s) (L · M)
@@ -115,22 +123,24 @@ pub record _≅_ (L M : Lang) : Type 0 where
 
 pub as-lang : {r : Reader} {L M F : Lang} {f : Class} → L ≅ M → Reads r L F f → Reads r M F f
 as-lang i a = record {
-  sound = λ w k tw e. let t = a .sound w k tw e in record { taken = t .taken; rest = t .rest; split = t .split; size = t .size; holds = i .to (t .taken) (t .holds); left = t .left };
+  sound = λ w k tw e. took-as (i .to) refl (a .sound w k tw e);
   complete = λ u v m t. a .complete u v (i .from u m) t;
   leads = λ u v m t. a .leads u v (i .from u m) t;
 }
+
+-- a choice by a test
+pub sound-choose : {r s : Reader} {L M : Lang} (t : List ℕ → Bool) → Sound r L → Sound s M → Sound (choose t r s) (L ∣ M)
+unfolding choose
+sound-choose {r} {s} t a b w k tw =
+    by-reader (t w) r s w (ok k) (λ _ e. took-as (λ u l. inl l) refl (a w k tw e)) (λ _ e. took-as (λ u m. inr m) refl (b w k tw e))
 
 -- a test that settles which of two readers it is
 pub alt : {r s : Reader} {L M F : Lang} {f g : Class} (t : List ℕ → Bool)
     → ((u v : List ℕ) → L u → F v → t (u ++ v) ≡ true) → ((u v : List ℕ) → M u → F v → t (u ++ v) ≡ false)
     → Reads r L F f → Reads s M F g → Reads (choose t r s) (L ∣ M) F (f ∪ g)
 unfolding choose
-alt {r} {s} {L} {M} {F} {f} {g} t yes-L no-M a b = record { sound = λ w k tw e. sound-by w k tw (t w) e; complete = complete-by; leads = leads-by }
+alt {r} {s} {L} {M} {F} {f} {g} t yes-L no-M a b = record { sound = sound-choose t (a .sound) (b .sound); complete = complete-by; leads = leads-by }
   where
-    sound-by : (w : List ℕ) (k : ℕ) → Text w → (c : Bool) → pick c r s w ≡ ok k → Took (L ∣ M) k w
-    sound-by w k tw true e = let t = a .sound w k tw e in record { taken = t .taken; rest = t .rest; split = t .split; size = t .size; holds = inl (t .holds); left = t .left }
-    sound-by w k tw false e = let t = b .sound w k tw e in record { taken = t .taken; rest = t .rest; split = t .split; size = t .size; holds = inr (t .holds); left = t .left }
-
     complete-by : (u v : List ℕ) → (L ∣ M) u → F v → pick (t (u ++ v)) r s (u ++ v) ≡ ok (length u)
     complete-by u v (inl l) h = rw (yes-L u v l h) (a .complete u v l h)
     complete-by u v (inr m) h = rw (no-M u v m h) (b .complete u v m h)
@@ -138,5 +148,3 @@ alt {r} {s} {L} {M} {F} {f} {g} t yes-L no-M a b = record { sound = λ w k tw e.
     leads-by : Leads (L ∣ M) F (f ∪ g)
     leads-by u v (inl l) h = in-left (f (kind (u ++ v))) (g (kind (u ++ v))) (a .leads u v l h)
     leads-by u v (inr m) h = in-right (f (kind (u ++ v))) (g (kind (u ++ v))) (b .leads u v m h)
-
--- Texts: characters one after the other

@@ -6,6 +6,7 @@ use mathlib.Core.Logic.{_⊎_}
 use mathlib.Core.Path.{_≡_, refl, sym, _∙_, ap, subst}
 use Prim.Native.Nat.{ℕ, suc, _+_, _<_}
 use native.Mathlib.Omega.{arith}
+use borrow.Author.Tests.{eqb-false}
 use lib.Dec.{T, ltb, eqb, eqb→eq}
 use lib.ListN.{length, drop, length-append, drop-of-length-le}
 use lib.Seq.{drop-append-seam}
@@ -13,13 +14,13 @@ use Rattle.spec.specs.Basics.{pick}
 use Rattle.spec.specs.Grammar.Characters.{Text, space, S, S?}
 use Rattle.spec.specs.Grammar.Languages.{Lang, ascii, Ch, inl, inr, Star, end, more, Plus, any, among}
 use Rattle.spec.specs.Reading.Dtd.{skip-s, require-s}
-use Rattle.spec.specs.Reading.Readers.{Result, ok, err, Reader, on-ok, run, required, char}
+use Rattle.spec.specs.Reading.Readers.{ok, err, Reader, run, required, char}
 use Rattle.spec.specs.Reading.Refusals.{Refusal, no-space}
 use Rattle.spec.proofs.Agreement.Chars.{kind-encode, sign, ch-some}
-use Rattle.spec.proofs.Agreement.Reads.{Took, Reads, Next, next, Leads}
+use Rattle.spec.proofs.Agreement.Reads.{Took, Reads, Next, next, Leads, took-as, took-none}
 use Rattle.spec.proofs.Agreement.Signs.{kind, kind-ascii, Class, Sub, sub-at, _∪_, in-left, in-right}
-use Rattle.spec.proofs.Base.Results.{err-ok, ok-inj}
-use Rattle.spec.proofs.Base.Tests.{T→true, true→T, false→no, decide, leb-yes, leb-true, eqb-true, eqb-yes, eqb-no, and-left, and-right, or-cases}
+use Rattle.spec.proofs.Base.Results.{ok-inj, on-ok-ok, unless-refused}
+use Rattle.spec.proofs.Base.Tests.{T→true, true→T, decide, leb-yes, leb-true, eqb-true, eqb-no, and-left, and-right, or-cases}
 use Rattle.spec.proofs.Characters.Text.{ascii-char, text-rest, star-one, all-ascii}
 use Rattle.spec.proofs.Characters.Utf8.{encode-1}
 
@@ -39,11 +40,11 @@ among-ascii (b ∷ bs) h c t = go (among-ascii bs (true→T (all-ascii bs) (and-
 module _ (p : ℕ → Bool) (small : (c : ℕ) → T (p c) → c < 128) where
   pub run-took : (w : List ℕ) → Text w → Took (Star (Ch p)) (run p w) w
   unfolding run Text
-  run-took [] tw = record { taken = []; rest = []; split = refl; size = refl; holds = end refl; left = tw }
+  run-took [] tw = took-none refl tw (end refl)
   run-took (b ∷ w) tw = go (p b) refl (run-took w)
     where
       go : (t : Bool) → p b ≡ t → (Text w → Took (Star (Ch p)) (run p w) w) → Took (Star (Ch p)) (pick t (suc (run p w)) 0) (b ∷ w)
-      go false e ih = record { taken = []; rest = b ∷ w; split = refl; size = refl; holds = end refl; left = tw }
+      go false e ih = took-none refl tw (end refl)
       go true e ih =
           let h : b < 128 = small b (true→T (p b) e) in
           let t : Took (Star (Ch p)) (run p w) w = ih (text-rest w (star-one (ascii-char any b h tt)) tw) in
@@ -78,7 +79,7 @@ module _ (p : ℕ → Bool) (small : (c : ℕ) → T (p c) → c < 128) where
 
   pub run-reads : (q : Class) → Sub q (λ k. not (p k)) → Reads (λ w. ok (run p w)) (Star (Ch p)) (Next q) (p ∪ q)
   run-reads q h = record {
-    sound = λ w k tw e. let t = run-took w tw in record { taken = t .taken; rest = t .rest; split = t .split; size = t .size ∙ ok-inj (run p w) k e; holds = t .holds; left = t .left };
+    sound = λ w k tw e. took-as (λ u s. s) (ok-inj (run p w) k e) (run-took w tw);
     complete = λ u v s t. ap ok (run-complete q h v s (t .it));
     leads = λ u v s t. leads-by v s (t .it);
   }
@@ -112,18 +113,16 @@ star-plus (more x y e l s) h = record { left = x; right = y; split = e; first = 
 pub at-least-one : {r : Reader} {L F : Lang} {g : Class} (n : Refusal) (f : Class) → ((u : List ℕ) → L u → 0 < length u) → ((u v : List ℕ) → L u → T (f (kind (u ++ v))))
     → Reads r (Star L) F g → Reads (required n r) (Plus L) F f
 unfolding required
-at-least-one {r} {L} {F} {g} n f some-L lead a = record { sound = λ w k tw e. by-first w k tw (r w) refl e; complete = complete-by; leads = leads-by }
+at-least-one {r} {L} {F} {g} n f some-L lead a = record { sound = sound-by; complete = complete-by; leads = leads-by }
   where
-    by-zero : (w : List ℕ) (k j : ℕ) → Took (Star L) j w → (t : Bool) → eqb j 0 ≡ t → pick t (err n) (ok j) ≡ ok k → Took (Plus L) k w
-    by-zero w k j o true f e = absurd (err-ok n k e)
-    by-zero w k j o false f e =
-        let h : j ≡ 0 → ⊥ = λ z. false→no (eqb j 0) f (true→T (eqb j 0) (eqb-yes j 0 z)) in
+    sound-by : (w : List ℕ) (k : ℕ) → Text w → required n r w ≡ ok k → Took (Plus L) k w
+    sound-by w k tw e =
+        let (j, f, g) = on-ok-ok (r w) (λ j. pick (eqb j 0) (err n) (ok j)) k e in
+        let (z, h) = unless-refused n (eqb j 0) (ok j) k g in
+        let o : Took (Star L) j w = a .sound w j tw f in
         let l : length (o .taken) ≡ j = o .size in
-        record { taken = o .taken; rest = o .rest; split = o .split; size = o .size ∙ ok-inj j k e; holds = star-plus (o .holds) (omega arith); left = o .left }
-
-    by-first : (w : List ℕ) (k : ℕ) → Text w → (x : Result) → r w ≡ x → on-ok x (λ j. pick (eqb j 0) (err n) (ok j)) ≡ ok k → Took (Plus L) k w
-    by-first w k tw (err m) f e = absurd (err-ok m k e)
-    by-first w k tw (ok j) f e = by-zero w k j (a .sound w j tw f) (eqb j 0) refl e
+        let s : j ≡ 0 → ⊥ = eqb-false j 0 z in
+        record { taken = o .taken; rest = o .rest; split = o .split; size = o .size ∙ ok-inj j k h; holds = star-plus (o .holds) (omega arith); left = o .left }
 
     complete-by : (u v : List ℕ) → Plus L u → F v → required n r (u ++ v) ≡ ok (length u)
     complete-by u v l t =

@@ -1,5 +1,4 @@
 -- Everything up to the first place of a word. Assumes nothing.
-use mathlib.Core.Bool.{Bool, true, false}
 use mathlib.Core.List.{List, _∷_, _++_, append-assoc}
 use mathlib.Core.Path.{_≡_, refl, sym, _∙_, ap, subst}
 use Prim.Native.Nat.{ℕ, suc, _+_}
@@ -10,11 +9,11 @@ use lib.Seq.{take-append-seam, length-take-le}
 use Rattle.spec.specs.Basics.{pick}
 use Rattle.spec.specs.Grammar.Characters.{Text}
 use Rattle.spec.specs.Grammar.Languages.{Lang, lit, ascii, Ch, _·_, Star, any}
-use Rattle.spec.specs.Reading.Readers.{Result, ok, err, Reader, on-ok, refuse, contains, before, up-to}
+use Rattle.spec.specs.Reading.Readers.{Result, ok, Reader, on-ok, refuse, contains, before, up-to}
 use Rattle.spec.specs.Reading.Refusals.{Refusal}
 use Rattle.spec.proofs.Agreement.Reads.{Took, Reads, Next}
 use Rattle.spec.proofs.Agreement.Words.{found, before-le, contains-at}
-use Rattle.spec.proofs.Base.Results.{err-ok, ok-inj}
+use Rattle.spec.proofs.Base.Results.{ok-inj, else-refuses, on-ok-ok}
 use Rattle.spec.proofs.Base.Tests.{T→true, leb-true, and-left}
 use Rattle.spec.proofs.Characters.Bytes.{text-front}
 use Rattle.spec.proofs.Characters.Text.{all-ascii, ascii-text, text-rest}
@@ -29,32 +28,23 @@ module _ (s : String) (n : Refusal) (check : List ℕ → Result) (X : Lang)
   reader q w = pick (contains q w) (λ x. on-ok (check (take (before q w) w)) (λ _. ok (before q w + length q))) (refuse n) w
 
   sound-up-to : (w : List ℕ) (k : ℕ) → Text w → reader (a ∷ p) w ≡ ok k → Took (X · (λ x. x ≡ a ∷ p)) k w
-  unfolding Text refuse
-  sound-up-to w k tw e = go (contains (a ∷ p) w) refl e
-    where
-      j : ℕ
-      j = before (a ∷ p) w
-
-      u : List ℕ
-      u = take j w
-
-      checked : (v : List ℕ) → w ≡ u ++ ((a ∷ p) ++ v) → (x : Result) → check u ≡ x → on-ok x (λ _. ok (j + length (a ∷ p))) ≡ ok k → Took (X · (λ x. x ≡ a ∷ p)) k w
-      checked v f (err m) g h = absurd (err-ok m k h)
-      checked v f (ok i) g h =
-          let l : length u ≡ j = length-take-le j w (before-le (a ∷ p) w) in
-          let tu : Star (Ch any) u = text-front u a (p ++ v) (leb-true (suc a) 128 (and-left (ltb a 128) (all-ascii p) (T→true (all-ascii (a ∷ p)) good))) f tw in
-          record {
-            taken = u ++ (a ∷ p);
-            rest = v;
-            split = f ∙ sym (append-assoc u (a ∷ p) v);
-            size = length-append u (a ∷ p) ∙ ap (λ (x : ℕ). x + length (a ∷ p)) l ∙ ok-inj (j + length (a ∷ p)) k h;
-            holds = record { left = u; right = a ∷ p; split = refl; first = sound-in u v i tu (ap (before (a ∷ p)) (sym f) ∙ sym l) g; second = refl };
-            left = text-rest v (ascii-text (a ∷ p) good) (text-rest ((a ∷ p) ++ v) tu (subst Text f tw));
-          }
-
-      go : (t : Bool) → contains (a ∷ p) w ≡ t → pick t (λ x. on-ok (check u) (λ _. ok (j + length (a ∷ p)))) (refuse n) w ≡ ok k → Took (X · (λ x. x ≡ a ∷ p)) k w
-      go false f g = absurd (err-ok n k g)
-      go true f g = let (v, h) = found (a ∷ p) w f in checked v h (check u) refl g
+  unfolding Text
+  sound-up-to w k tw e =
+      let j : ℕ = before (a ∷ p) w in
+      let u : List ℕ = take j w in
+      let (c, g) = else-refuses n (contains (a ∷ p) w) (λ x. on-ok (check u) (λ _. ok (j + length (a ∷ p)))) w k e in
+      let (v, f) = found (a ∷ p) w c in
+      let (i, h, m) = on-ok-ok (check u) (λ _. ok (j + length (a ∷ p))) k g in
+      let l : length u ≡ j = length-take-le j w (before-le (a ∷ p) w) in
+      let tu : Star (Ch any) u = text-front u a (p ++ v) (leb-true (suc a) 128 (and-left (ltb a 128) (all-ascii p) (T→true (all-ascii (a ∷ p)) good))) f tw in
+      record {
+        taken = u ++ (a ∷ p);
+        rest = v;
+        split = f ∙ sym (append-assoc u (a ∷ p) v);
+        size = length-append u (a ∷ p) ∙ ap (λ (x : ℕ). x + length (a ∷ p)) l ∙ ok-inj (j + length (a ∷ p)) k m;
+        holds = record { left = u; right = a ∷ p; split = refl; first = sound-in u v i tu (ap (before (a ∷ p)) (sym f) ∙ sym l) h; second = refl };
+        left = text-rest v (ascii-text (a ∷ p) good) (text-rest ((a ∷ p) ++ v) tu (subst Text f tw));
+      }
 
   complete-up-to : (u v : List ℕ) → (X · (λ x. x ≡ a ∷ p)) u → reader (a ∷ p) (u ++ v) ≡ ok (length u)
   complete-up-to u v l =

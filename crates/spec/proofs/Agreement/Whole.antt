@@ -13,7 +13,7 @@ use Rattle.spec.specs.Grammar.Languages.{Lang}
 use Rattle.spec.specs.Reading.Readers.{ok, Reader, _>>_, at-end}
 use Rattle.spec.specs.Reading.Refusals.{Refusal}
 use Rattle.spec.proofs.Agreement.Algebra.{ε}
-use Rattle.spec.proofs.Agreement.Reads.{Took, Reads, Next, drop-took}
+use Rattle.spec.proofs.Agreement.Reads.{Took, Reads, Next, drop-took, took-none}
 use Rattle.spec.proofs.Agreement.Signs.{kind, Class}
 use Rattle.spec.proofs.Base.Results.{err-ok, ok-inj, then-ok}
 use Rattle.spec.proofs.Base.Tests.{leb-true}
@@ -40,7 +40,7 @@ at-end-reads n = record {
 }
   where
     sound-by : (w : List ℕ) (k : ℕ) → Text w → at-end n w ≡ ok k → Took ε k w
-    sound-by [] k tw e = record { taken = []; rest = []; split = refl; size = ok-inj 0 k e; holds = refl; left = tw }
+    sound-by [] k tw e = took-none (ok-inj 0 k e) tw refl
     sound-by (b ∷ w) k tw e = absurd (err-ok n k e)
 
 -- a reader that takes nothing but whole texts

@@ -14,7 +14,7 @@ use Rattle.spec.specs.Reading.Readers.{word-of, ok, err, starts, word, c
 use Rattle.spec.specs.Reading.Refusals.{Refusal}
 use Rattle.spec.proofs.Agreement.Reads.{Took, Leads, Reads, Next}
 use Rattle.spec.proofs.Agreement.Signs.{kind, Class, kind-ascii}
-use Rattle.spec.proofs.Base.Results.{err-ok, ok-inj}
+use Rattle.spec.proofs.Base.Results.{ok-inj, else-refused}
 use Rattle.spec.proofs.Base.Tests.{T→true, leb-true, eqb-true, and-left, and-right}
 use Rattle.spec.proofs.Characters.Text.{text-rest, all-ascii, ascii-text}
 
@@ -83,17 +83,17 @@ starts-split (a ∷ s) (b ∷ w) e =
 
 pub wd : (s : String) (n : Refusal) → T (plain (ascii s)) → Reads (word s n) (lit s) (Next any) (first-of s)
 unfolding word-of
-wd s n h = record { sound = λ w k tw e. sound-by w k tw (starts (ascii s) w) refl e; complete = complete-by; leads = λ u v e t. subst (λ (x : List ℕ). T (first-of s (kind (x ++ v)))) (sym e) (leads-lit (ascii s) v h) }
+wd s n h = record { sound = sound-by; complete = complete-by; leads = λ u v e t. subst (λ (x : List ℕ). T (first-of s (kind (x ++ v)))) (sym e) (leads-lit (ascii s) v h) }
   where
     is-ascii : (x : List ℕ) → T (plain x) → T (all-ascii x)
     is-ascii [] t = absurd t
     is-ascii (b ∷ bs) t = t
 
-    sound-by : (w : List ℕ) (k : ℕ) → Text w → (t : Bool) → starts (ascii s) w ≡ t → pick t (ok (length (ascii s))) (err n) ≡ ok k → Took (lit s) k w
-    sound-by w k tw false f e = absurd (err-ok n k e)
-    sound-by w k tw true f e =
+    sound-by : (w : List ℕ) (k : ℕ) → Text w → pick (starts (ascii s) w) (ok (length (ascii s))) (err n) ≡ ok k → Took (lit s) k w
+    sound-by w k tw e =
+        let (f, m) = else-refused n (starts (ascii s) w) (ok (length (ascii s))) k e in
         let (v, g) = starts-split (ascii s) w f in
-        record { taken = ascii s; rest = v; split = g; size = ok-inj (length (ascii s)) k e; holds = refl; left = text-rest v (ascii-text (ascii s) (is-ascii (ascii s) h)) (subst Text g tw) }
+        record { taken = ascii s; rest = v; split = g; size = ok-inj (length (ascii s)) k m; holds = refl; left = text-rest v (ascii-text (ascii s) (is-ascii (ascii s) h)) (subst Text g tw) }
 
     complete-by : (u v : List ℕ) → lit s u → Next any v → pick (starts (ascii s) (u ++ v)) (ok (length (ascii s))) (err n) ≡ ok (length u)
     complete-by u v e t = rw (e, starts-self (ascii s) v)

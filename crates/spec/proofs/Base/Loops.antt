@@ -2,14 +2,14 @@
 use mathlib.Core.Bool.{Bool, true, false, true≢false}
 use mathlib.Core.List.{List, [], _∷_}
 use mathlib.Core.Path.{_≡_, refl, sym, _∙_, ap}
-use Prim.Native.Nat.{ℕ, zero, suc, _+_, _≤_, _<_}
+use Prim.Native.Nat.{ℕ, zero, suc, _≤_, _<_}
 use native.Mathlib.Omega.{arith}
 use lib.ListN.{length, drop, length-drop}
 use lib.Seq.{drop-drop, drop-nil}
 use Rattle.spec.specs.Basics.{pick}
-use Rattle.spec.specs.Reading.Readers.{Result, ok, err, Reader, on-ok, past, nothing, while-fuel, while, some-left, throughout}
+use Rattle.spec.specs.Reading.Readers.{Result, ok, err, Reader, on-ok, past, nothing, while-fuel, while, some-left, throughout, _>>_}
 use Rattle.spec.specs.Reading.Refusals.{Refusal}
-use Rattle.spec.proofs.Base.Results.{err-ok, ok-inj}
+use Rattle.spec.proofs.Base.Results.{ok-inj, by-reader, then-ok}
 
 -- a reader that takes a byte or more, where one is left and it does not refuse
 pub record Somes (r : Reader) : Type 0 where
@@ -85,24 +85,17 @@ through-none r (b ∷ w) n h e = through-refused r b w n e
 
 -- a loop whose turns take a byte or more ends only where its test fails
 pub while-exit : (t : List ℕ → Bool) (r : Reader) → t [] ≡ false → Somes r → (d : ℕ) (w : List ℕ) (k : ℕ) → length w ≤ d → while-fuel d t r w ≡ ok k → t (drop k w) ≡ false
-unfolding while-fuel nothing
+unfolding while-fuel nothing _>>_
 while-exit t r n some zero [] k h e = ap t (drop-nil k) ∙ n
 while-exit t r n some zero (b ∷ w) k h e = absurd (let z : suc (length w) ≤ 0 = h in omega arith)
-while-exit t r n some (suc d) w k h e = by-test (t w) refl e (λ x. while-exit t r n some d x)
+while-exit t r n some (suc d) w k h e = by-reader (t w) (r >> while-fuel d t r) nothing w (ok k) (again (λ x. while-exit t r n some d x)) (λ f g. ap (λ (q : ℕ). t (drop q w)) (sym (ok-inj 0 k g)) ∙ f) e
   where
-    by-rest : (j : ℕ) → 0 < j → (a : Result) → while-fuel d t r (drop j w) ≡ a → past j a ≡ ok k → ((x : List ℕ) (m : ℕ) → length x ≤ d → while-fuel d t r x ≡ ok m → t (drop m x) ≡ false) → t (drop k w) ≡ false
-    by-rest j p (err m) f g ih = absurd (err-ok m k g)
-    by-rest j p (ok m) f g ih = ap (λ (q : ℕ). t (drop q w)) (sym (ok-inj (j + m) k g)) ∙ ap t (sym (drop-drop m j w)) ∙ ih (drop j w) m (omega (arith, length-drop j w)) f
-
     first : (x : List ℕ) (j : ℕ) → t x ≡ true → r x ≡ ok j → 0 < j
     first [] j y f = absurd (true≢false (sym y ∙ n))
     first (b ∷ x) j y f = some .some b x j f
 
-    by-turn : (a : Result) → t w ≡ true → r w ≡ a → on-ok a (λ j. past j (while-fuel d t r (drop j w))) ≡ ok k → ((x : List ℕ) (m : ℕ) → length x ≤ d → while-fuel d t r x ≡ ok m → t (drop m x) ≡ false) → t (drop k w) ≡ false
-    by-turn (err m) y f g ih = absurd (err-ok m k g)
-    by-turn (ok j) y f g ih = by-rest j (first w j y f) (while-fuel d t r (drop j w)) refl g ih
-
-    by-test : (b : Bool) → t w ≡ b → pick b (λ x. on-ok (r x) (λ j. past j (while-fuel d t r (drop j x)))) nothing w ≡ ok k
-        → ((x : List ℕ) (m : ℕ) → length x ≤ d → while-fuel d t r x ≡ ok m → t (drop m x) ≡ false) → t (drop k w) ≡ false
-    by-test true f g ih = by-turn (r w) f refl g ih
-    by-test false f g ih = ap (λ (q : ℕ). t (drop q w)) (sym (ok-inj 0 k g)) ∙ f
+    again : ((x : List ℕ) (m : ℕ) → length x ≤ d → while-fuel d t r x ≡ ok m → t (drop m x) ≡ false) → t w ≡ true → (r >> while-fuel d t r) w ≡ ok k → t (drop k w) ≡ false
+    again ih y g =
+        let (i, j, f, l, s) = then-ok r (while-fuel d t r) w k g in
+        let p : 0 < i = first w i y f in
+        ap (λ (q : ℕ). t (drop q w)) (sym s) ∙ ap t (sym (drop-drop j i w)) ∙ ih (drop i w) j (omega (arith, length-drop i w)) l

@@ -23,6 +23,14 @@ pub false→no : (b : Bool) → b ≡ false → T b → ⊥
 false→no true e t = true≢false e
 false→no false e t = t
 
+pub not-true : (b : Bool) → not b ≡ true → b ≡ false
+not-true true e = absurd (true≢false (sym e))
+not-true false e = refl
+
+pub not-false : (b : Bool) → not b ≡ false → b ≡ true
+not-false true e = refl
+not-false false e = absurd (true≢false e)
+
 -- a test is passed or not
 pub decide : (b : Bool) → (b ≡ true) ⊎ (b ≡ false)
 decide true = inl refl

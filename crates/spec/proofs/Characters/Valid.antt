@@ -1,14 +1,12 @@
 -- The reader of UTF-8 and the grammar's texts; and what stands in front of every public call. Assumes nothing.
 use mathlib.Core.Path.{_≡_, refl, sym, _∙_, ap}
 use mathlib.Core.Logic.{_⊎_, inl, inr, ⊎-elim}
-use mathlib.Core.Bool.{Bool, true, false}
 use mathlib.Core.List.{List, [], _∷_, _++_}
 use Prim.Native.Nat.{ℕ, zero, suc, _+_, _≤_, _<_}
 use native.Mathlib.Omega.{arith}
 use lib.Dec.{ltb}
 use lib.ListN.{length, drop, length-append}
 use lib.Seq.{drop-append-seam, drop-at}
-use Rattle.spec.specs.Basics.{pick}
 use Rattle.spec.specs.Grammar.Utf8.{scalar, encode}
 use Rattle.spec.specs.Grammar.Languages.{Ch, Star, end, more, any}
 use Rattle.spec.specs.Grammar.Characters.{Text}
@@ -18,7 +16,7 @@ use Rattle.spec.specs.Reading.Readers.{ok, err, past, char}
 use Rattle.spec.specs.Reading.Source.{utf8, limit, admit}
 use Rattle.spec.proofs.Base.Tests.{T→true, true→T, leb-no, leb-false}
 use Rattle.spec.proofs.Characters.Utf8.{Read, decode-read, decode-encode, no-point≢point, point-size}
-use Rattle.spec.proofs.Base.Results.{err-ok}
+use Rattle.spec.proofs.Base.Results.{err-ok, unless-refused}
 use Rattle.spec.proofs.Base.Somes.{some-char}
 use Rattle.spec.proofs.Base.Loops.{through-end, through-turn, through-refused}
 
@@ -80,11 +78,10 @@ utf8-complete w t = complete-to t
 -- 1 before 2
 pub admit-ok : (w : List ℕ) (k : ℕ) → admit w ≡ ok k → (length w ≤ limit) × Text w
 unfolding admit
-admit-ok w k = go (ltb limit (length w)) refl
-  where
-    go : (t : Bool) → ltb limit (length w) ≡ t → pick t (err too-long) (utf8 w) ≡ ok k → (length w ≤ limit) × Text w
-    go true f e = absurd (err-ok too-long k e)
-    go false f e = let h : length w < suc limit = leb-false (suc limit) (length w) f in (omega arith, utf8-sound w k e)
+admit-ok w k e =
+    let (f, g) = unless-refused too-long (ltb limit (length w)) (utf8 w) k e in
+    let h : length w < suc limit = leb-false (suc limit) (length w) f in
+    (omega arith, utf8-sound w k g)
 
 pub admits : (w : List ℕ) → length w ≤ limit → Text w → (k : ℕ) × (admit w ≡ ok k)
 unfolding admit

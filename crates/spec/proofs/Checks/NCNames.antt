@@ -1,6 +1,6 @@
 -- checks.rs: is_ncname says yes exactly to what Namespaces' NCName derives. Assumes nothing.
-use mathlib.Core.Path.{_≡_, refl, sym}
-use mathlib.Core.Bool.{Bool, true, false, _&&_, not, true≢false}
+use mathlib.Core.Path.{_≡_, refl}
+use mathlib.Core.Bool.{true, _&&_, not}
 use mathlib.Core.List.{List, [], _∷_}
 use Prim.Native.Nat.{ℕ}
 use lib.Dec.{eqb}
@@ -11,14 +11,10 @@ use Rattle.spec.specs.Reading.Readers.{number-of, contains}
 use Rattle.spec.specs.Reading.Wellformed.{check-name}
 use Rattle.spec.proofs.Agreement.Accepts.{Decides, zero-ok}
 use Rattle.spec.proofs.Agreement.Holds.{free-holds}
-use Rattle.spec.proofs.Base.Tests.{eqb-true, and-left, and-right}
+use Rattle.spec.proofs.Base.Tests.{eqb-true, and-left, and-right, not-true}
 use Rattle.spec.proofs.Dtd.Notations.{no-colon}
 use Rattle.spec.proofs.Wellformed.Checks.{name-agrees}
 use Rattle.spec.proofs.Wellformed.Names.{AsciiNames}
-
-not-true : (b : Bool) → not b ≡ true → b ≡ false
-not-true true e = absurd (true≢false (sym e))
-not-true false e = refl
 
 pub ncname-decides : (D : Dialect) → AsciiNames D → Decides (is-ncname D) (NCName D)
 unfolding is-ncname NCName

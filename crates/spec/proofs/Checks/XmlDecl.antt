@@ -1,19 +1,18 @@
 -- check_declaration accepts exactly the XML declarations that the grammar derives. Assumes nothing.
 use mathlib.Core.Bool.{Bool, true, false}
 use mathlib.Core.List.{List, [], _++_, append-assoc}
-use mathlib.Core.Path.{_≡_, refl, sym, _∙_, ap, subst}
+use mathlib.Core.Path.{_≡_, sym, _∙_, ap, subst}
 use Prim.Native.Nat.{ℕ}
 use Prim.Native.String.{String}
 use lib.Dec.{T}
 use lib.ListN.{drop}
-use Rattle.spec.specs.Basics.{pick}
 use Rattle.spec.specs.Grammar.Characters.{Text, S, S?, space}
 use Rattle.spec.specs.Grammar.Languages.{Lang, lit, ascii, _·_, inl, inr, Opt, any}
 use Rattle.spec.specs.Grammar.Literals.{Quoted}
 use Rattle.spec.specs.Grammar.XmlDecl.{Eq, VersionInfo, EncodingDecl, SDDecl, XMLDecl}
 use Rattle.spec.specs.Reading.Checks.{valued, is-enc-name, is-yes-or-no, parse-eq-quoted, pseudo-attr, check-declaration}
 use Rattle.spec.specs.Reading.Dtd.{skip-s}
-use Rattle.spec.specs.Reading.Readers.{ok, Reader, _>>_, nothing, refuse, at-end, starts, choose, run}
+use Rattle.spec.specs.Reading.Readers.{Reader, _>>_, nothing, at-end, starts, choose, run}
 use Rattle.spec.specs.Reading.Refusals.{unexpected, trailing, bad-value}
 use Rattle.spec.proofs.Agreement.Accepts.{Agrees}
 use Rattle.spec.proofs.Agreement.Algebra.{ε, back, _then_, cat₂, assoc, none-after, plus-or-none}
@@ -24,7 +23,7 @@ use Rattle.spec.proofs.Agreement.Signs.{kind, Class, Sub, by-signs, sub
 use Rattle.spec.proofs.Agreement.Texts.{Texts, texts-cat, texts-lit, texts-either, texts-none, texts-s, texts-s?}
 use Rattle.spec.proofs.Agreement.Whole.{stop, at-end-reads, Whole, whole, ends-seq, ends-at-end}
 use Rattle.spec.proofs.Agreement.Words.{plain, first-of, clash, wd, starts-clash, starts-lit}
-use Rattle.spec.proofs.Base.Results.{err-ok}
+use Rattle.spec.proofs.Base.Results.{else-refuses}
 use Rattle.spec.proofs.Characters.Text.{all-ascii}
 use Rattle.spec.proofs.Dtd.Literals.{Inside, quote-first, quoted-reads}
 use Rattle.spec.proofs.Checks.Values.{Value, version-value, enc-value, yes-no-value}
@@ -33,12 +32,12 @@ use Rattle.spec.proofs.Wellformed.References.{Avoiding}
 -- Eq and a value in quotes, whatever its test
 module _ {test : List ℕ → Bool} {L : Lang} (x : Value test L) where
   value-inside : (a : ℕ) → Avoiding a L → Inside (valued test) L a
-  unfolding valued choose nothing refuse
-  value-inside a free = record { sound-in = λ u j tu h e. by-test u j tu (test u) refl e; complete-in = λ u l. (0, rw (x .decides .answer u (x .decides .text u l) .1 l)); free = free }
-    where
-      by-test : (u : List ℕ) (j : ℕ) → Text u → (t : Bool) → test u ≡ t → pick t nothing (refuse bad-value) u ≡ ok j → L u
-      by-test u j tu true f e = x .decides .answer u tu .0 f
-      by-test u j tu false f e = absurd (err-ok bad-value j e)
+  unfolding valued choose nothing
+  value-inside a free = record {
+    sound-in = λ u j tu h e. x .decides .answer u tu .0 (else-refuses bad-value (test u) nothing u j e .0);
+    complete-in = λ u l. (0, rw (x .decides .answer u (x .decides .text u l) .1 l));
+    free = free;
+  }
 
   eq-quoted-reads : Reads (parse-eq-quoted test) (Eq · Quoted L L) (Next any) (space ∪ first-of "=")
   unfolding parse-eq-quoted Eq

@@ -1,21 +1,21 @@
 -- Attribute-list declarations. Assumes nothing.
-use mathlib.Core.Bool.{Bool, true, false, _&&_, true≢false}
+use mathlib.Core.Bool.{Bool, true, false, _&&_}
 use mathlib.Core.List.{List, [], _∷_, _++_, append-assoc}
 use mathlib.Core.Path.{_≡_, refl, sym, _∙_, ap}
 use Prim.Native.Nat.{ℕ, suc, _+_, _≤_, _<_}
 use Prim.Native.String.{String}
 use native.Mathlib.Omega.{arith}
+use borrow.Author.Tests.{eqb-false}
 use lib.Dec.{T, ltb, eqb}
 use lib.ListN.{length, drop, length-append, drop-of-length-le}
 use lib.Seq.{drop-drop}
-use Rattle.spec.specs.Basics.{pick}
 use Rattle.spec.specs.Grammar.Characters.{S, S?, space}
 use Rattle.spec.specs.Grammar.Declarations.{listed, AttType, DefaultDecl, AttDef, attlist-body}
 use Rattle.spec.specs.Grammar.Languages.{Lang, lit, ascii, _·_, _∣_, inl, inr, Star, Opt, any, one-of}
 use Rattle.spec.specs.Grammar.Literals.{AttValue}
 use Rattle.spec.specs.Grammar.Names.{Dialect, Name, Nmtoken}
 use Rattle.spec.specs.Reading.Dtd.{skip-s, require-s, parse-quoted, check-att-value, nmtoken, after, bar-list, tokenized, word-among, parse-att-type, parse-default-decl, parse-att-def, parse-attlist-decl}
-use Rattle.spec.specs.Reading.Readers.{Result, ok, err, Reader, on-ok, _>>_, nothing, refuse, starts, on, word, run, while-fuel, while, required, past}
+use Rattle.spec.specs.Reading.Readers.{ok, Reader, _>>_, nothing, refuse, starts, on, word, run, while, required}
 use Rattle.spec.specs.Reading.Refusals.{no-space, unexpected}
 use Rattle.spec.specs.Reading.Wellformed.{name}
 use Rattle.spec.proofs.Agreement.Algebra.{same, back, _then_, cat, cat₂, assoc, starred, rotate, no-other}
@@ -27,9 +27,9 @@ use Rattle.spec.proofs.Agreement.Signs.{kind, Class, by-signs, sub-any,
 use Rattle.spec.proofs.Agreement.Whole.{stop, Whole, whole, Ends, ends-seq}
 use Rattle.spec.proofs.Agreement.Words.{wd, first-of, plain, starts-self, starts-clash, clash, starts-lit}
 use Rattle.spec.proofs.Base.Loops.{Somes, while-exit}
-use Rattle.spec.proofs.Base.Results.{err-ok, ok-inj}
+use Rattle.spec.proofs.Base.Results.{ok-inj, unless-refused, then-ok}
 use Rattle.spec.proofs.Base.Somes.{some-then}
-use Rattle.spec.proofs.Base.Tests.{true→T, leb-yes, leb-no, leb-false, eqb-yes, and-left, and-right}
+use Rattle.spec.proofs.Base.Tests.{true→T, leb-yes, leb-no, leb-false, and-left, and-right}
 use Rattle.spec.proofs.Dtd.Literals.{quote-first}
 use Rattle.spec.proofs.Dtd.Notations.{blank-run, blank-first, blank-end, spaced}
 use Rattle.spec.proofs.Dtd.Values.{att-value-reads}
@@ -204,30 +204,22 @@ module _ (D : Dialect) (A : AsciiNames D) where
 
   some-def : Somes (parse-att-def D)
   unfolding parse-att-def require-s required skip-s
-  some-def = some-then require-s _ (record { some = λ b w j. some-space (b ∷ w) j })
-    where
-      some-space : (x : List ℕ) (j : ℕ) → require-s x ≡ ok j → 0 < j
-      some-space x j e = go (eqb (run space x) 0) refl e
-        where
-          go : (t : Bool) → eqb (run space x) 0 ≡ t → pick t (err no-space) (ok (run space x)) ≡ ok j → 0 < j
-          go true f g = absurd (err-ok no-space j g)
-          go false f g =
-              let z : run space x ≡ 0 → ⊥ = λ q. true≢false (sym (eqb-yes (run space x) 0 q) ∙ f) in
-              let k : run space x ≡ j = ok-inj (run space x) j g in
-              omega arith
+  some-def = some-then require-s _ (record {
+    some = λ b w j e.
+        let n : ℕ = run space (b ∷ w) in
+        let (f, g) = unless-refused no-space (eqb n 0) (ok n) j e in
+        let z : n ≡ 0 → ⊥ = eqb-false n 0 f in
+        let k : n ≡ j = ok-inj n j g in
+        omega arith;
+  })
 
   list-ends : Ends (while more-than-space (parse-att-def D) >> skip-s)
-  unfolding _>>_ while skip-s
-  list-ends w n e = go (while-fuel (length w) more-than-space (parse-att-def D) w) refl e
-    where
-      all-run : (x : List ℕ) → more-than-space x ≡ false → drop (run space x) x ≡ []
-      all-run x f = let h : length x ≤ run space x = omega (arith, leb-false (suc (run space x)) (length x) f) in drop-of-length-le x h
-
-      go : (a : Result) → while-fuel (length w) more-than-space (parse-att-def D) w ≡ a → on-ok a (λ k. past k (ok (run space (drop k w)))) ≡ ok n → drop n w ≡ []
-      go (err m) f g = absurd (err-ok m n g)
-      go (ok k) f g =
-          ap (λ (q : ℕ). drop q w) (sym (ok-inj (k + run space (drop k w)) n g)) ∙ sym (drop-drop (run space (drop k w)) k w)
-          ∙ all-run (drop k w) (while-exit more-than-space (parse-att-def D) (unfold run in refl) some-def (length w) w k (omega arith) f)
+  unfolding while skip-s
+  list-ends w n e =
+      let (k, j, f, g, l) = then-ok (while more-than-space (parse-att-def D)) skip-s w n e in
+      let h : length (drop k w) ≤ run space (drop k w) =
+      omega (arith, leb-false (suc (run space (drop k w))) (length (drop k w)) (while-exit more-than-space (parse-att-def D) (unfold run in refl) some-def (length w) w k (omega arith) f)) in
+      ap (λ (q : ℕ). drop q w) (sym l) ∙ sym (drop-drop j k w) ∙ ap (λ (q : ℕ). drop q (drop k w)) (sym (ok-inj (run space (drop k w)) j g)) ∙ drop-of-length-le (drop k w) h
 
   pub attlist-whole : Whole (parse-attlist-decl D) (attlist-body D)
   unfolding parse-attlist-decl attlist-body

@@ -17,13 +17,13 @@ use Rattle.spec.specs.Grammar.Literals.{SystemLiteral}
 use Rattle.spec.specs.Grammar.Names.{Dialect}
 use Rattle.spec.specs.Grammar.Utf8.{scalar, encode}
 use Rattle.spec.specs.Reading.Dtd.{take-decl-body, has-pe-reference, finish-decl}
-use Rattle.spec.specs.Reading.Readers.{Result, ok, err, Reader, on-ok, nothing, begins, of-point, past}
+use Rattle.spec.specs.Reading.Readers.{ok, Reader, on-ok, nothing, begins, of-point, past}
 use Rattle.spec.specs.Reading.Refusals.{unterminated}
 use Rattle.spec.specs.Reading.Utf8.{decode1, Point, point, no-point}
 use Rattle.spec.proofs.Agreement.Chars.{begins-ch}
 use Rattle.spec.proofs.Agreement.Reads.{Took, Reads, Next}
 use Rattle.spec.proofs.Agreement.Whole.{Whole}
-use Rattle.spec.proofs.Base.Results.{err-ok, ok-inj}
+use Rattle.spec.proofs.Base.Results.{err-ok, ok-inj, on-ok-ok, past-ok}
 use Rattle.spec.proofs.Base.Tests.{true→T, decide, leb-true, leb-false, eqb-yes, eqb-true, eqb-no, or-cases, and-left, and-right}
 use Rattle.spec.proofs.Characters.Bytes.{all-high, high-head, high-tail, high-encode, avoids, avoids-append, avoids-high, class-avoids, avoids-class, text-front, not-one}
 use Rattle.spec.proofs.Characters.Text.{text-rest, ascii-text, star-one}
@@ -44,15 +44,11 @@ record Ended (q k : ℕ) (w : List ℕ) : Type 0 where
   good : del q body ≡ true
 
 one-more : (q p k b : ℕ) (w : List ℕ) → ((u : List ℕ) → del q (b ∷ u) ≡ del p u) → ((j : ℕ) → take-decl-body p w ≡ ok j → Ended p j w) → past 1 (take-decl-body p w) ≡ ok k → Ended q k (b ∷ w)
-one-more q p k b w same ih e = go (take-decl-body p w) refl e
-  where
-    go : (a : Result) → take-decl-body p w ≡ a → past 1 a ≡ ok k → Ended q k (b ∷ w)
-    go (err m) f g = absurd (err-ok m k g)
-    go (ok j) f g =
-        let t : Ended p j w = ih j f in
-        let l : 1 + j ≡ k = ok-inj (1 + j) k g in
-        let m : length (t .body) ≡ j = t .size in
-        record { body = b ∷ t .body; rest = t .rest; split = ap (λ (x : List ℕ). b ∷ x) (t .split); size = omega arith; good = same (t .body) ∙ t .good }
+one-more q p k b w same ih e =
+    let (j, f, l) = past-ok 1 k (take-decl-body p w) e in
+    let t : Ended p j w = ih j f in
+    let m : length (t .body) ≡ j = t .size in
+    record { body = b ∷ t .body; rest = t .rest; split = ap (λ (x : List ℕ). b ∷ x) (t .split); size = omega arith; good = same (t .body) ∙ t .good }
 
 body-ended : (q k : ℕ) (w : List ℕ) → take-decl-body q w ≡ ok k → Ended q k w
 unfolding take-decl-body del
@@ -334,31 +330,22 @@ module _ (D : Dialect) where
       read-as false u j tu d true f e = inr (del-delimits 0 (omega arith) tu d, refers-sound u tu f)
       read-as false u j tu d false f e = inl (a .sound u j tu e)
 
-      by-body : (w : List ℕ) (k i : ℕ) → Star (Ch any) w → (o : Ended 0 i w) → (x : Result) → pick (pe || has-pe-reference D (o .body)) nothing body (o .body) ≡ x → on-ok x (λ _. ok (i + 1)) ≡ ok k → Took (declared D pe B · lit ">") k w
-      by-body w k i tw o (err m) f e = absurd (err-ok m k e)
-      by-body w k i tw o (ok j) f e =
+      sound-by : (w : List ℕ) (k : ℕ) → Star (Ch any) w → finish-decl D pe body w ≡ ok k → Took (declared D pe B · lit ">") k w
+      sound-by w k tw e =
+          let (i, f, g) = on-ok-ok (take-decl-body 0 w) (λ i. on-ok (pick (pe || has-pe-reference D (take i w)) nothing body (take i w)) (λ _. ok (i + 1))) k e in
+          let o : Ended 0 i w = body-ended 0 i w f in
           let u : List ℕ = o .body in
+          let z : take i w ≡ u = ap (take i) (o .split) ∙ take-at u (62 ∷ o .rest) i (o .size) in
+          let (j, h, m) = on-ok-ok (pick (pe || has-pe-reference D u) nothing body u) (λ _. ok (i + 1)) k (subst (λ (q : List ℕ). on-ok (pick (pe || has-pe-reference D q) nothing body q) (λ _. ok (i + 1)) ≡ ok k) z g) in
           let tu : Star (Ch any) u = text-front u 62 (o .rest) (omega arith) (o .split) tw in
           record {
             taken = u ++ (62 ∷ []);
             rest = o .rest;
             split = o .split ∙ sym (append-assoc u (62 ∷ []) (o .rest));
-            size = length-append u (62 ∷ []) ∙ ap (λ (m : ℕ). m + 1) (o .size) ∙ ok-inj (i + 1) k e;
-            holds = record { left = u; right = 62 ∷ []; split = refl; first = read-as pe u j tu (o .good) (has-pe-reference D u) refl f; second = refl };
+            size = length-append u (62 ∷ []) ∙ ap (λ (m : ℕ). m + 1) (o .size) ∙ ok-inj (i + 1) k m;
+            holds = record { left = u; right = 62 ∷ []; split = refl; first = read-as pe u j tu (o .good) (has-pe-reference D u) refl h; second = refl };
             left = text-rest (o .rest) (ascii-text (ascii ">") tt) (text-rest (62 ∷ o .rest) tu (subst (Star (Ch any)) (o .split) tw));
           }
-
-      by-end : (w : List ℕ) (k : ℕ) → Star (Ch any) w → (x : Result) → take-decl-body 0 w ≡ x
-          → on-ok x (λ i. on-ok (pick (pe || has-pe-reference D (take i w)) nothing body (take i w)) (λ _. ok (i + 1))) ≡ ok k → Took (declared D pe B · lit ">") k w
-      by-end w k tw (err m) f e = absurd (err-ok m k e)
-      by-end w k tw (ok i) f e =
-          let o : Ended 0 i w = body-ended 0 i w f in
-          let z : take i w ≡ o .body = ap (take i) (o .split) ∙ take-at (o .body) (62 ∷ o .rest) i (o .size) in
-          by-body w k i tw o (pick (pe || has-pe-reference D (o .body)) nothing body (o .body)) refl
-          (subst (λ (q : List ℕ). on-ok (pick (pe || has-pe-reference D q) nothing body q) (λ _. ok (i + 1)) ≡ ok k) z e)
-
-      sound-by : (w : List ℕ) (k : ℕ) → Text w → finish-decl D pe body w ≡ ok k → Took (declared D pe B · lit ">") k w
-      sound-by w k tw e = by-end w k tw (take-decl-body 0 w) refl e
 
       delimited : (pe : Bool) (u : List ℕ) → declared D pe B u → del 0 u ≡ true
       delimited true u d = delimited-del d

@@ -14,7 +14,7 @@ use Rattle.spec.specs.Grammar.Declarations.{Comment}
 use Rattle.spec.specs.Grammar.Languages.{Lang, lit, Ch, _·_, _∣_, inl, inr, Star, end, more, Opt, any, none-of}
 use Rattle.spec.specs.Grammar.Utf8.{encode}
 use Rattle.spec.specs.Reading.Dtd.{check-comment, parse-comment}
-use Rattle.spec.specs.Reading.Readers.{ok, nothing, refuse, starts, choose, contains, before}
+use Rattle.spec.specs.Reading.Readers.{nothing, starts, choose, contains, before}
 use Rattle.spec.specs.Reading.Refusals.{unterminated, unexpected, double-hyphen}
 use Rattle.spec.proofs.Agreement.Algebra.{cat₂, assoc}
 use Rattle.spec.proofs.Agreement.Chars.{ch-some}
@@ -22,7 +22,7 @@ use Rattle.spec.proofs.Agreement.Reads.{Reads, Next, seq, as-lang}
 use Rattle.spec.proofs.Agreement.Signs.{sub-any}
 use Rattle.spec.proofs.Agreement.UpTo.{up-to-reads}
 use Rattle.spec.proofs.Agreement.Words.{wd, first-of}
-use Rattle.spec.proofs.Base.Results.{err-ok}
+use Rattle.spec.proofs.Base.Results.{unless-refuses}
 use Rattle.spec.proofs.Base.Tests.{decide, eqb-true, or-false-left, or-false-right}
 use Rattle.spec.proofs.Characters.Bytes.{avoids, class-avoids}
 use Rattle.spec.proofs.Characters.Text.{star-one}
@@ -133,18 +133,14 @@ first-close (b ∷ d ∷ u) v h = go (eqb b 45) (eqb d 45) (or-false-left (eqb b
     go false t e f = ap suc f
 
 pub comment-reads : Reads parse-comment Comment (Next any) (first-of "<")
-unfolding parse-comment Comment check-comment choose refuse nothing Text
+unfolding parse-comment Comment check-comment choose nothing Text
 comment-reads =
     as-lang (cat₂ assoc)
     (seq (wd "<!--" unexpected tt) sub-any
     (up-to-reads "-->" unterminated check-comment Unhyphened 45 (45 ∷ 62 ∷ []) refl tt
-    (λ u v j tu h e. unhyphened false tu (passed u j (twice u) refl e))
+    (λ u v j tu h e. unhyphened false tu (unless-refuses double-hyphen (twice u) nothing u j e .0))
     (λ u x. (0, rw (none u x)))
     (λ u v x. first-close u v (none u x))))
   where
     none : (u : List ℕ) → Unhyphened u → twice u ≡ false
     none u x = ap twice (x .split) ∙ no-twice (x .right) (x .first) (x .second)
-
-    passed : (u : List ℕ) (j : ℕ) (t : Bool) → twice u ≡ t → pick t (refuse double-hyphen) nothing u ≡ ok j → twice u ≡ false
-    passed u j true f e = absurd (err-ok double-hyphen j e)
-    passed u j false f e = f

@@ -1,7 +1,7 @@
 -- Content models: mixed ones, and groups in groups to a height. Assumes nothing.
-use mathlib.Core.Bool.{Bool, true, false, _&&_, _||_, not, true≢false}
+use mathlib.Core.Bool.{Bool, true, false, _&&_, _||_, not}
 use mathlib.Core.List.{List, [], _∷_, _++_, append-assoc}
-use mathlib.Core.Path.{_≡_, refl, sym, _∙_, ap}
+use mathlib.Core.Path.{_≡_, refl, _∙_, ap}
 use Prim.Native.Nat.{ℕ, zero, suc, _+_, _<_}
 use Prim.Native.String.{String}
 use native.Mathlib.Omega.{arith}
@@ -26,7 +26,7 @@ use Rattle.spec.proofs.Agreement.Runs.{not-space, skip, need, run-compl
 use Rattle.spec.proofs.Agreement.Signs.{kind, Class, Sub, sub-at, by-signs, sub-any, sub-refl, _∪_}
 use Rattle.spec.proofs.Agreement.Whole.{stop, at-end-reads}
 use Rattle.spec.proofs.Agreement.Words.{wd, first-of, plain, starts-self, starts-clash, starts-lit, starts-lit₂}
-use Rattle.spec.proofs.Base.Tests.{T→true, and-left, and-right}
+use Rattle.spec.proofs.Base.Tests.{T→true, and-left, and-right, not-true}
 use Rattle.spec.proofs.Wellformed.Names.{AsciiNames, start-first, name-reads}
 
 -- the signs after a particle, after a connector's particle and its white space, and before a particle
@@ -131,10 +131,6 @@ module _ (D : Dialect) (A : AsciiNames D) where
         where
           small : (b : ℕ) → b < 128 → T (after-cp b && ltb b 130 && not (mark b) && not (eqb b 128)) → mark b ≡ false
           small b l h = not-true (mark b) (and-right (after-cp b && ltb b 130) (not (mark b)) (and-left (after-cp b && ltb b 130 && not (mark b)) (not (eqb b 128)) (T→true (after-cp b && ltb b 130 && not (mark b) && not (eqb b 128)) h)))
-            where
-              not-true : (t : Bool) → not t ≡ true → t ≡ false
-              not-true true e = absurd (true≢false (sym e))
-              not-true false e = refl
 
   -- a particle over what a group in it may be, and groups to a height
   cp-reads : {r : Reader} {G : Lang} → ((u v : List ℕ) → G u → starts (ascii "(") (u ++ v) ≡ true) → Reads r G (Next any) (first-of "(") → Reads (cp-of D r) (cp D G) (Next after-cp) cp-first

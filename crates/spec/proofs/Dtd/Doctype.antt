@@ -4,7 +4,7 @@ use mathlib.Core.Bool.{Bool, true, false, _||_, true≢false}
 use mathlib.Core.List.{List, [], _∷_, _++_, append-assoc, append-nil}
 use mathlib.Core.Logic.{_⊎_}
 use mathlib.Core.Path.{_≡_, refl, sym, _∙_, ap, subst}
-use Prim.Native.Nat.{ℕ, suc, _+_}
+use Prim.Native.Nat.{ℕ, suc}
 use native.Mathlib.Omega.{arith}
 use lib.Dec.{T, ltb, eqb}
 use lib.ListN.{length, drop}
@@ -15,7 +15,7 @@ use Rattle.spec.specs.Grammar.Languages.{Lang, lit, ascii, _·_, _∣_, 
 use Rattle.spec.specs.Grammar.Literals.{ExternalID}
 use Rattle.spec.specs.Grammar.Names.{Dialect, Name}
 use Rattle.spec.specs.Reading.Dtd.{skip-s, parse-external-id, parse-markup-decl, parse-internal-subset, check-doctype}
-use Rattle.spec.specs.Reading.Readers.{Result, ok, err, Reader, on-ok, _>>_, nothing, at-end, starts, choose, on, word, while-fuel, while, begins, char, past}
+use Rattle.spec.specs.Reading.Readers.{ok, Reader, _>>_, nothing, at-end, starts, choose, on, word, while, begins, char}
 use Rattle.spec.specs.Reading.Refusals.{bad-name, unexpected, trailing}
 use Rattle.spec.specs.Reading.Utf8.{decode1}
 use Rattle.spec.specs.Reading.Wellformed.{parts, name}
@@ -27,7 +27,7 @@ use Rattle.spec.proofs.Agreement.Signs.{kind, Class, sub-at, by-signs, 
 use Rattle.spec.proofs.Agreement.Whole.{stop, at-end-reads, Ends, ends-seq, ends-at-end, Whole, whole}
 use Rattle.spec.proofs.Agreement.Words.{wd, first-of, starts-clash, starts-lit}
 use Rattle.spec.proofs.Base.Loops.{while-exit}
-use Rattle.spec.proofs.Base.Results.{err-ok, ok-inj}
+use Rattle.spec.proofs.Base.Results.{then-ok}
 use Rattle.spec.proofs.Base.Somes.{some-char}
 use Rattle.spec.proofs.Base.Tests.{T→true, leb-true, eqb-true, or-cases}
 use Rattle.spec.proofs.Characters.Utf8.{decode-1}
@@ -38,18 +38,11 @@ use Rattle.spec.proofs.Wellformed.Names.{AsciiNames, ends-name, start-f
 module _ (D : Dialect) (A : AsciiNames D) where
   -- a name ends where no name character stands
   munch : (w : List ℕ) (k : ℕ) → name D w ≡ ok k → begins (D .part) (drop k w) ≡ false
-  unfolding name parts _>>_ while begins decode1
-  munch w k e = by-first (char (D .start) bad-name w) e
-    where
-      by-rest : (j : ℕ) (a : Result) → while-fuel (length (drop j w)) (begins (D .part)) (char (D .part) bad-name) (drop j w) ≡ a → past j a ≡ ok k → begins (D .part) (drop k w) ≡ false
-      by-rest j (err m) f g = absurd (err-ok m k g)
-      by-rest j (ok m) f g =
-          ap (λ (q : ℕ). begins (D .part) (drop q w)) (sym (ok-inj (j + m) k g)) ∙ ap (begins (D .part)) (sym (drop-drop m j w))
-          ∙ while-exit (begins (D .part)) (char (D .part) bad-name) refl (some-char (D .part) bad-name) (length (drop j w)) (drop j w) m (omega arith) f
-
-      by-first : (a : Result) → on-ok a (λ j. past j (parts D (drop j w))) ≡ ok k → begins (D .part) (drop k w) ≡ false
-      by-first (err m) g = absurd (err-ok m k g)
-      by-first (ok j) g = by-rest j (while-fuel (length (drop j w)) (begins (D .part)) (char (D .part) bad-name) (drop j w)) refl g
+  unfolding name parts while begins decode1
+  munch w k e =
+      let (i, j, _, g, l) = then-ok (char (D .start) bad-name) (parts D) w k e in
+      ap (λ (q : ℕ). begins (D .part) (drop q w)) (sym l) ∙ ap (begins (D .part)) (sym (drop-drop j i w))
+      ∙ while-exit (begins (D .part)) (char (D .part) bad-name) refl (some-char (D .part) bad-name) (length (drop i w)) (drop i w) j (omega arith) g
 
 module _ (D : Dialect) (A : AsciiNames D) (M : Bool → Lang) (reads-markup : (pe : Bool) → Reads (parse-markup-decl D pe) (M pe) (Next any) (first-of "<")) where
   -- what stands after the name, as it is read and as it is written

@@ -16,7 +16,7 @@ use Rattle.spec.specs.Grammar.Declarations.{PI}
 use Rattle.spec.specs.Grammar.Languages.{Lang, lit, ascii, Ch, _·_, inl, inr, Star, end, more, Plus, Opt, any, one-of, none-of, _∖_}
 use Rattle.spec.specs.Grammar.Names.{Dialect, Name, NCName, PITarget}
 use Rattle.spec.specs.Reading.Dtd.{reserved, check-target, check-pi, parse-pi}
-use Rattle.spec.specs.Reading.Readers.{Result, ok, err, on-ok, _>>_, starts, run, contains, before, past}
+use Rattle.spec.specs.Reading.Readers.{ok, err, _>>_, starts, run, contains, before}
 use Rattle.spec.specs.Reading.Refusals.{has-colon, unterminated, unexpected, reserved-target}
 use Rattle.spec.specs.Reading.Wellformed.{check-name}
 use Rattle.spec.proofs.Agreement.Algebra.{cat₂, assoc}
@@ -25,7 +25,7 @@ use Rattle.spec.proofs.Agreement.Runs.{space-ascii, among-ascii}
 use Rattle.spec.proofs.Agreement.Signs.{sub-any}
 use Rattle.spec.proofs.Agreement.UpTo.{up-to-reads}
 use Rattle.spec.proofs.Agreement.Words.{wd, first-of}
-use Rattle.spec.proofs.Base.Results.{err-ok}
+use Rattle.spec.proofs.Base.Results.{then-ok, unless-refused}
 use Rattle.spec.proofs.Base.Tests.{T→true, true→T, no→false, or-false-left, or-false-right, and-left, and-right}
 use Rattle.spec.proofs.Characters.Bytes.{avoids, avoids-append, class-avoids, text-front}
 use Rattle.spec.proofs.Characters.Text.{text-rest, ascii-char, star-one, all-ascii}
@@ -137,17 +137,12 @@ module _ (D : Dialect) (A : AsciiNames D) where
       }
 
   target-sound : (t : List ℕ) (j : ℕ) → Text t → check-target D t ≡ ok j → PITarget D t
-  unfolding check-target _>>_ PITarget NCName
-  target-sound t j tt′ e = by-name (check-name D t) refl e
-    where
-      by-tests : Name D t → (x y : Bool) → contains (58 ∷ []) t ≡ x → reserved t ≡ y → (k : ℕ) → past k (pick x (err has-colon) (pick y (err reserved-target) (ok 0))) ≡ ok j → PITarget D t
-      by-tests n true y f g k h = absurd (err-ok has-colon j h)
-      by-tests n false true f g k h = absurd (err-ok reserved-target j h)
-      by-tests n false false f g k h = ((n, free-holds ":" 58 [] refl tt t f), λ x. true≢false (sym (xml-reserved t x) ∙ g))
-
-      by-name : (a : Result) → check-name D t ≡ a → on-ok a (λ k. past k (pick (contains (ascii ":") t) (err has-colon) (pick (reserved t) (err reserved-target) (ok 0)))) ≡ ok j → PITarget D t
-      by-name (err m) f g = absurd (err-ok m j g)
-      by-name (ok k) f g = by-tests (check-name-whole D A .sound t k tt′ f) (contains (58 ∷ []) t) (reserved t) refl refl k g
+  unfolding check-target PITarget NCName
+  target-sound t j tt′ e =
+      let (i, k, f, g, _) = then-ok (check-name D) (λ _. pick (contains (ascii ":") t) (err has-colon) (pick (reserved t) (err reserved-target) (ok 0))) t j e in
+      let (c, h) = unless-refused has-colon (contains (ascii ":") t) (pick (reserved t) (err reserved-target) (ok 0)) k g in
+      let (r, _) = unless-refused reserved-target (reserved t) (ok 0) k h in
+      ((check-name-whole D A .sound t i tt′ f, free-holds ":" 58 [] refl tt t c), λ x. true≢false (sym (xml-reserved t x) ∙ r))
 
   target-complete : (t : List ℕ) → PITarget D t → (j : ℕ) × (check-target D t ≡ ok j)
   unfolding check-target _>>_ PITarget NCName

@@ -15,7 +15,7 @@ use Rattle.spec.specs.Grammar.Languages.{Lang, lit, ascii, Ch, _·_, inl
 use Rattle.spec.specs.Grammar.Literals.{Quoted, SystemLiteral, PubidLiteral, ExternalID, pubid-char}
 use Rattle.spec.specs.Grammar.References.{digit}
 use Rattle.spec.specs.Reading.Dtd.{parse-quoted, check-pubid, parse-external-id}
-use Rattle.spec.specs.Reading.Readers.{Result, ok, err, nothing, starts, run, before, up-to}
+use Rattle.spec.specs.Reading.Readers.{Result, ok, nothing, starts, run, before, up-to}
 use Rattle.spec.specs.Reading.Refusals.{Refusal, unterminated, no-literal, unexpected, bad-pubid}
 use Rattle.spec.proofs.Agreement.Choices.{on-word}
 use Rattle.spec.proofs.Agreement.Reads.{Reads, Next, seq, weaken}
@@ -23,7 +23,7 @@ use Rattle.spec.proofs.Agreement.Runs.{need, whole-run, run-whole, amon
 use Rattle.spec.proofs.Agreement.Signs.{Class, by-signs, sub-any, sub-refl}
 use Rattle.spec.proofs.Agreement.UpTo.{up-to-reads}
 use Rattle.spec.proofs.Agreement.Words.{wd}
-use Rattle.spec.proofs.Base.Results.{err-ok}
+use Rattle.spec.proofs.Base.Results.{else-refused}
 use Rattle.spec.proofs.Base.Tests.{T→true, true→T, leb-yes, eqb-true, eqb-yes, and-left, or-cases, within-hi}
 use Rattle.spec.proofs.Characters.Bytes.{avoids, class-avoids, avoids-class, not-one}
 use Rattle.spec.proofs.Characters.Text.{star-map}
@@ -104,14 +104,10 @@ pubid-ascii c t = go₁ (or-cases (one-of " \r\n-'()+,./:=?;!*#@$_%" c || digit 
 pubid-inside : (a : ℕ) (p : ℕ → Bool) → a < 128 → p a ≡ false → ((c : ℕ) → T (p c) → T (pubid-char c)) → ((c : ℕ) → T (pubid-char c) → (c ≡ a → ⊥) → T (p c)) → Inside check-pubid (Star (Ch p)) a
 unfolding check-pubid
 pubid-inside a p l n sub sup = record {
-  sound-in = λ u j tu h e. avoids-class pubid-char p a l sup (whole-run pubid-char pubid-ascii u tu (by-test u j (eqb (run pubid-char u) (length u)) refl e)) h;
+  sound-in = λ u j tu h e. avoids-class pubid-char p a l sup (whole-run pubid-char pubid-ascii u tu (eqb-true (run pubid-char u) (length u) (else-refused bad-pubid (eqb (run pubid-char u) (length u)) (ok 0) j e .0))) h;
   complete-in = λ u x. (0, rw (eqb-yes (run pubid-char u) (length u) (run-whole pubid-char pubid-ascii (unfold pubid-char in refl) (star-map (λ w c. record { char = c .char; is-scalar = c .is-scalar; in-class = sub (c .char) (c .in-class); bytes = c .bytes }) x))));
   free = λ u x. class-avoids p a l n x;
 }
-  where
-    by-test : (u : List ℕ) (j : ℕ) (t : Bool) → eqb (run pubid-char u) (length u) ≡ t → pick t (ok 0) (err bad-pubid) ≡ ok j → run pubid-char u ≡ length u
-    by-test u j true f e = eqb-true (run pubid-char u) (length u) f
-    by-test u j false f e = absurd (err-ok bad-pubid j e)
 
 pub pubid-literal-reads : Reads (parse-quoted check-pubid) PubidLiteral (Next any) quote-first
 unfolding PubidLiteral pubid-char

@@ -16,7 +16,7 @@ use Rattle.spec.specs.Grammar.Languages.{Lang, lit, ascii, Ch, _·_, _�
 use Rattle.spec.specs.Grammar.Literals.{SystemLiteral, PubidLiteral, ExternalID, PublicID}
 use Rattle.spec.specs.Grammar.Names.{Dialect, Name, NCName}
 use Rattle.spec.specs.Reading.Dtd.{skip-s, require-s, parse-quoted, check-pubid, ncname, second-literal, parse-notation-decl}
-use Rattle.spec.specs.Reading.Readers.{Result, ok, err, on-ok, _>>_, nothing, at-end, starts, on, word, run, contains}
+use Rattle.spec.specs.Reading.Readers.{ok, err, _>>_, nothing, at-end, starts, on, word, run, contains}
 use Rattle.spec.specs.Reading.Refusals.{has-colon, unexpected, trailing}
 use Rattle.spec.specs.Reading.Wellformed.{name}
 use Rattle.spec.proofs.Agreement.Algebra.{ε, same, _then_, cat₂, either, over-right, none-after, regroup}
@@ -29,7 +29,7 @@ use Rattle.spec.proofs.Agreement.Whole.{stop, stop-nil, at-end-reads, W
 use Rattle.spec.proofs.Agreement.Words.{wd}
 use Rattle.spec.proofs.Agreement.Holds.{free-holds, holds-free}
 use Rattle.spec.proofs.Agreement.Texts.{texts-name}
-use Rattle.spec.proofs.Base.Results.{err-ok, ok-inj}
+use Rattle.spec.proofs.Base.Results.{ok-inj, on-ok-ok, unless-refused}
 use Rattle.spec.proofs.Base.Tests.{T→true, true→T, leb-yes, or-cases}
 use Rattle.spec.proofs.Dtd.Literals.{quote-first, system-literal-reads, pubid-literal-reads}
 use Rattle.spec.proofs.Dtd.Subset.{starts-sign}
@@ -43,25 +43,15 @@ module _ (D : Dialect) (A : AsciiNames D) where
 
   pub ncname-reads : Reads (ncname D) (NCName D) (Next ends-name) start-first
   unfolding ncname NCName
-  ncname-reads = record { sound = λ w k tw e. by-name w k tw (name D w) refl e; complete = complete-by; leads = λ u v n t. name-reads D A .leads u v (n .0) t }
+  ncname-reads = record { sound = sound-by; complete = complete-by; leads = λ u v n t. name-reads D A .leads u v (n .0) t }
     where
-      by-colon : (w : List ℕ) (k j : ℕ) (o : Took (Name D) j w) → (t : Bool) → contains (58 ∷ []) (o .taken) ≡ t → pick t (err has-colon) (ok j) ≡ ok k → Took (NCName D) k w
-      by-colon w k j o true f e = absurd (err-ok has-colon k e)
-      by-colon w k j o false f e = record {
-        taken = o .taken;
-        rest = o .rest;
-        split = o .split;
-        size = o .size ∙ ok-inj j k e;
-        holds = (o .holds, free-holds ":" 58 [] refl tt (o .taken) f);
-        left = o .left;
-      }
-
-      by-name : (w : List ℕ) (k : ℕ) → Text w → (a : Result) → name D w ≡ a → on-ok a (λ j. pick (contains (ascii ":") (take j w)) (err has-colon) (ok j)) ≡ ok k → Took (NCName D) k w
-      by-name w k tw (err m) f e = absurd (err-ok m k e)
-      by-name w k tw (ok j) f e =
+      sound-by : (w : List ℕ) (k : ℕ) → Text w → ncname D w ≡ ok k → Took (NCName D) k w
+      sound-by w k tw e =
+          let (j, f, g) = on-ok-ok (name D w) (λ j. pick (contains (ascii ":") (take j w)) (err has-colon) (ok j)) k e in
+          let (c, h) = unless-refused has-colon (contains (ascii ":") (take j w)) (ok j) k g in
           let o : Took (Name D) j w = name-reads D A .sound w j tw f in
           let z : take j w ≡ o .taken = ap (take j) (o .split) ∙ take-at (o .taken) (o .rest) j (o .size) in
-          by-colon w k j o (contains (58 ∷ []) (o .taken)) refl (subst (λ (q : List ℕ). pick (contains (58 ∷ []) q) (err has-colon) (ok j) ≡ ok k) z e)
+          record { taken = o .taken; rest = o .rest; split = o .split; size = o .size ∙ ok-inj j k h; holds = (o .holds, free-holds ":" 58 [] refl tt (o .taken) (ap (contains (ascii ":")) (sym z) ∙ c)); left = o .left }
 
       complete-by : (u v : List ℕ) → NCName D u → Next ends-name v → ncname D (u ++ v) ≡ ok (length u)
       complete-by u v n t =

@@ -15,7 +15,7 @@ use Rattle.spec.specs.Reading.Readers.{ok, Reader, _>>_, refuse, at-end,
 use Rattle.spec.specs.Reading.Refusals.{unterminated, unexpected}
 use Rattle.spec.proofs.Agreement.Algebra.{ε}
 use Rattle.spec.proofs.Agreement.Choices.{refuse-reads}
-use Rattle.spec.proofs.Agreement.Reads.{Took, Sound, Complete, Leads, Reads, Next, sound-seq, complete-seq, seq, as-lang, weaken}
+use Rattle.spec.proofs.Agreement.Reads.{Sound, Complete, Leads, Reads, Next, sound-seq, complete-seq, seq, as-lang, weaken, took-as, sound-choose}
 use Rattle.spec.proofs.Agreement.Runs.{not-space, skip}
 use Rattle.spec.proofs.Agreement.Signs.{kind, Class, Sub, by-signs, sub-any, sub-refl}
 use Rattle.spec.proofs.Agreement.Whole.{at-end-reads}
@@ -34,17 +34,6 @@ starts-sign a (b ∷ w) l t = go (ltb b 128) refl t
     go : (x : Bool) → ltb b 128 ≡ x → T (eqb (pick x b 128) a) → (eqb b a && true) ≡ true
     go true e h = rw (T→true (eqb b a) h)
     go false e h = let f : 128 ≡ a = eqb-true 128 a (T→true (eqb 128 a) h) in absurd (omega arith)
-
-pub sound-choose : (t : List ℕ → Bool) (r s : Reader) (L M : Lang) → Sound r L → Sound s M → Sound (choose t r s) (L ∣ M)
-unfolding choose
-sound-choose t r s L M a b w k tw e = go (t w) e
-  where
-    go : (c : Bool) → pick c r s w ≡ ok k → Took (L ∣ M) k w
-    go true e = let t = a w k tw e in record { taken = t .taken; rest = t .rest; split = t .split; size = t .size; holds = inl (t .holds); left = t .left }
-    go false e = let t = b w k tw e in record { taken = t .taken; rest = t .rest; split = t .split; size = t .size; holds = inr (t .holds); left = t .left }
-
-pub sound-map : (r : Reader) (L M : Lang) → ((w : List ℕ) → L w → M w) → Sound r L → Sound r M
-sound-map r L M f a w k tw e = let t = a w k tw e in record { taken = t .taken; rest = t .rest; split = t .split; size = t .size; holds = f (t .taken) (t .holds); left = t .left }
 
 module _ (D : Dialect) (A : AsciiNames D) (M : Bool → Lang) (reads-markup : (pe : Bool) → Reads (parse-markup-decl D pe) (M pe) (Next any) (first-of "<")) where
   pub pe-reads : Reads (parse-pe-reference D) (PEReference D) (Next any) (first-of "%")
@@ -76,14 +65,14 @@ module _ (D : Dialect) (A : AsciiNames D) (M : Bool → Lang) (reads-markup : (p
     where
       go : ((b : Bool) → Sound (subset-fuel D d b) (Items b)) → Sound (subset-fuel D (suc d) pe) (Items pe)
       go ih =
-          sound-map _ (S? · Item pe) (Items pe) (items pe)
+          λ w k tw e. took-as (items pe) refl
           (sound-seq skip-s _ S? (Item pe) (skip not-space sub-refl .sound)
-          (sound-choose (starts (ascii "]")) _ _ (lit "]") ((PEReference D · Items true) ∣ (M pe · Items pe) ∣ (λ w. ⊥)) (wd "]" unexpected tt .sound)
-          (sound-choose (starts (ascii "%")) _ _ (PEReference D · Items true) ((M pe · Items pe) ∣ (λ w. ⊥)) (sound-seq _ _ (PEReference D) (Items true) (pe-reads .sound) (ih true))
-          (sound-choose (starts (ascii "<")) _ _ (M pe · Items pe) (λ w. ⊥) (sound-seq _ _ (M pe) (Items pe) (reads-markup pe .sound) (ih pe)) never))))
+          (sound-choose (starts (ascii "]")) (wd "]" unexpected tt .sound)
+          (sound-choose (starts (ascii "%")) (sound-seq _ _ (PEReference D) (Items true) (pe-reads .sound) (ih true))
+          (sound-choose (starts (ascii "<")) (sound-seq _ _ (M pe) (Items pe) (reads-markup pe .sound) (ih pe)) never))) w k tw e)
         where
           never : Sound (at-end unexpected >> refuse unterminated) (λ w. ⊥)
-          never = sound-map _ (ε · (λ w. ⊥)) (λ w. ⊥) (λ w c. absurd (c .second)) (sound-seq (at-end unexpected) (refuse unterminated) ε (λ w. ⊥) (at-end-reads unexpected .sound) (refuse-reads {F = ε} unterminated any .sound))
+          never w k tw e = took-as (λ u c. c .second) refl (sound-seq (at-end unexpected) (refuse unterminated) ε (λ w. ⊥) (at-end-reads unexpected .sound) (refuse-reads {F = ε} unterminated any .sound) w k tw e)
 
   -- each is read back
   rest-reader : ℕ → Bool → Reader

@@ -6,20 +6,19 @@ use Prim.Native.Nat.{ℕ, _<_}
 use native.Mathlib.Omega.{arith}
 use lib.Dec.{T, eqb}
 use lib.ListN.{length}
-use Rattle.spec.specs.Basics.{pick}
 use Rattle.spec.specs.Grammar.Characters.{Text}
 use Rattle.spec.specs.Grammar.Languages.{Ch, any, none-of}
 use Rattle.spec.specs.Grammar.Literals.{EntityValue, AttValue}
 use Rattle.spec.specs.Grammar.References.{Referring}
 use Rattle.spec.specs.Reading.Dtd.{parse-quoted, check-att-value}
-use Rattle.spec.specs.Reading.Readers.{ok, refuse, starts, choose, on, contains, a-byte}
+use Rattle.spec.specs.Reading.Readers.{ok, starts, choose, on, contains, a-byte}
 use Rattle.spec.specs.Reading.Refusals.{less-than}
 use Rattle.spec.specs.Reading.Utf8.{tail}
 use Rattle.spec.specs.Reading.Wellformed.{ref-or-byte, check-char-refs}
 use Rattle.spec.proofs.Agreement.Chars.{ch-some}
 use Rattle.spec.proofs.Agreement.Holds.{contains-avoid}
 use Rattle.spec.proofs.Agreement.Reads.{Reads, Next}
-use Rattle.spec.proofs.Base.Results.{err-ok}
+use Rattle.spec.proofs.Base.Results.{unless-refuses}
 use Rattle.spec.proofs.Base.Somes.{some-ref-or-byte}
 use Rattle.spec.proofs.Base.Tests.{within-lo, eqb-no, or-false-left, or-false-right}
 use Rattle.spec.proofs.Characters.Bytes.{avoids, avoids-parted, avoids-char, not-one}
@@ -116,7 +115,9 @@ avoids-less u h = ap less (sym (append-nil u)) ∙ contains-avoid 60 [] u [] h
 att-inside : (a : ℕ) (p : ℕ → Bool) → Foreign a → p a ≡ false → p 60 ≡ false → ((c : ℕ) → (c ≡ a → ⊥) → (c ≡ 60 → ⊥) → T (p c)) → Inside check-att-value (Referring p) a
 unfolding check-att-value choose
 att-inside a p f n m in-p = record {
-  sound-in = λ u j tu h e. by-less u j tu h (less u) refl e;
+  sound-in = λ u j tu h e.
+      let (f, g) = unless-refuses less-than (less u) check-char-refs u j e in
+      refs-sound p Q rest classed u j tu (h, less-avoids u f) g;
   complete-in = λ u r. (length u, rw (avoids-less u (ref-avoids p 60 less-foreign m u r)) (refs-complete p Q rest classed u r (ref-avoids p a f n u r, ref-avoids p 60 less-foreign m u r)));
   free = ref-avoids p a f n;
 }
@@ -134,10 +135,6 @@ att-inside a p f n m in-p = record {
       where
         less-no : (c : ℕ) → c ≡ 60 → T (not (eqb c 60)) → ⊥
         less-no c k t = rw k at t
-
-    by-less : (u : List ℕ) (j : ℕ) → Text u → avoids a u ≡ true → (t : Bool) → less u ≡ t → pick t (refuse less-than) check-char-refs u ≡ ok j → Referring p u
-    by-less u j tu h true g e = absurd (err-ok less-than j (unfold refuse in e))
-    by-less u j tu h false g e = refs-sound p Q rest classed u j tu (h, less-avoids u g) e
 
 pub att-value-reads : Reads (parse-quoted check-att-value) AttValue (Next any) quote-first
 unfolding AttValue

@@ -6,13 +6,12 @@ use Prim.Native.Nat.{ℕ, _<_}
 use native.Mathlib.Omega.{arith}
 use lib.Dec.{T, eqb}
 use lib.ListN.{length, length-append}
-use Rattle.spec.specs.Basics.{pick}
 use Rattle.spec.specs.Grammar.Characters.{xml-char, Chars, Text}
 use Rattle.spec.specs.Grammar.Languages.{ascii, Ch, Star, end, more, any, none-of}
 use Rattle.spec.specs.Grammar.Names.{Dialect, Name}
 use Rattle.spec.specs.Grammar.References.{Referred, CharData, AttText}
 use Rattle.spec.specs.Grammar.Utf8.{scalar, encode}
-use Rattle.spec.specs.Reading.Readers.{Result, ok, err, refuse, starts, choose, on, contains, past, a-byte, throughout}
+use Rattle.spec.specs.Reading.Readers.{Result, ok, err, starts, choose, on, contains, past, a-byte, throughout}
 use Rattle.spec.specs.Reading.Refusals.{illegal-char, section-end, less-than}
 use Rattle.spec.specs.Reading.Utf8.{tail}
 use Rattle.spec.specs.Reading.Wellformed.{illegal-here, legal-byte, check-chars, char-ref, check-char-refs, text-step, check-text, attr-step, check-attr-value, check-name}
@@ -21,9 +20,9 @@ use Rattle.spec.proofs.Agreement.Chars.{ch-some}
 use Rattle.spec.proofs.Agreement.Holds.{contains-after, contains-start, free-holds, holds-free}
 use Rattle.spec.proofs.Agreement.Texts.{texts-star, texts-ch, texts-referring, texts-name}
 use Rattle.spec.proofs.Base.Loops.{through-end, through-none}
-use Rattle.spec.proofs.Base.Results.{err-ok, past-ok}
+use Rattle.spec.proofs.Base.Results.{err-ok, past-ok, unless-refuses}
 use Rattle.spec.proofs.Base.Somes.{some-legal, some-text, some-attr}
-use Rattle.spec.proofs.Base.Tests.{T→true, true→T, eqb-true, and-left}
+use Rattle.spec.proofs.Base.Tests.{T→true, true→T, eqb-true, and-left, not-false}
 use Rattle.spec.proofs.Characters.Bytes.{avoids, class-avoids, not-one}
 use Rattle.spec.proofs.Characters.LegalBytes.{tail-legal, legal-here}
 use Rattle.spec.proofs.Characters.Text.{star-one, reclass}
@@ -40,15 +39,10 @@ legal-takes u v c =
     rw (ap (λ (z : List ℕ). illegal-here (z ++ v)) (c .bytes) ∙ legal-here (c .char) v (T→true (scalar (c .char)) (c .is-scalar)) ∙ ap not (T→true (xml-char (c .char)) (c .in-class))) (byte-taken u v c)
 
 legal-char : (u v : List ℕ) (k : ℕ) (c : Ch any u) → legal-byte (u ++ v) ≡ ok k → T (xml-char (c .char))
-unfolding legal-byte choose refuse
-legal-char u v k c e = true→T (xml-char (c .char)) (go (xml-char (c .char)) refl)
-  where
-    here : illegal-here (u ++ v) ≡ not (xml-char (c .char))
-    here = ap (λ (z : List ℕ). illegal-here (z ++ v)) (c .bytes) ∙ legal-here (c .char) v (T→true (scalar (c .char)) (c .is-scalar))
-
-    go : (t : Bool) → xml-char (c .char) ≡ t → xml-char (c .char) ≡ true
-    go true f = f
-    go false f = absurd (err-ok illegal-char k (sym (ap (λ (t : Bool). pick t (refuse illegal-char) a-byte (u ++ v)) (here ∙ ap not f)) ∙ e))
+unfolding legal-byte choose
+legal-char u v k c e =
+    let here : illegal-here (u ++ v) ≡ not (xml-char (c .char)) = ap (λ (z : List ℕ). illegal-here (z ++ v)) (c .bytes) ∙ legal-here (c .char) v (T→true (scalar (c .char)) (c .is-scalar)) in
+    true→T (xml-char (c .char)) (not-false (xml-char (c .char)) (sym here ∙ unless-refuses illegal-char (illegal-here (u ++ v)) a-byte (u ++ v) k e .0))
 
 legal-tail : (b : ℕ) (w : List ℕ) → tail b ≡ true → legal-byte (b ∷ w) ≡ ok 1
 unfolding legal-byte choose a-byte
@@ -108,19 +102,17 @@ abbrev Here : List ℕ → Type 0
 Here w = starts CD w ≡ false
 
 text-walk : Step text-step xml-char Free Here
-unfolding text-step on choose refuse
+unfolding text-step on choose
 text-walk = record {
   some = some-text;
   rest = nothing-asked;
   at-tail = λ b w h. rw (tail-starts 93 (ascii "]>") (omega arith) b w h, tail-starts 38 (ascii "#") (omega arith) b w h) (legal-tail b w h);
   at-ref = λ w e. rw (cd-ref w e, e);
   takes = λ u v c n b. rw (b, n) (legal-takes u v c);
-  legal = λ u v k c n q e. legal-by u v k c n (starts CD (u ++ v)) refl e;
+  legal = λ u v k c n q e.
+      let (f, g) = unless-refuses section-end (starts CD (u ++ v)) (on "&#" char-ref legal-byte) (u ++ v) k e in
+      (reclass c (legal-char u v k c (rw n at g)), f);
 }
-  where
-    legal-by : (u v : List ℕ) (k : ℕ) → Ch any u → starts AR (u ++ v) ≡ false → (t : Bool) → starts CD (u ++ v) ≡ t → pick t (refuse section-end) (on "&#" char-ref legal-byte) (u ++ v) ≡ ok k → Ch xml-char u × (starts CD (u ++ v) ≡ false)
-    legal-by u v k c n true f e = absurd (err-ok section-end k e)
-    legal-by u v k c n false f e = (reclass c (legal-char u v k c (rw n at e)), f)
 
 bracket-foreign : Foreign 93
 bracket-foreign = record { small = omega arith; opening = refl; opening-x = refl; closing = refl; no-digit = refl; no-hex = refl }
@@ -165,20 +157,17 @@ both true b s t = t
 both false b s t = s
 
 attr-walk : Step attr-step unless Free Free
-unfolding attr-step on choose refuse
+unfolding attr-step on choose
 attr-walk = record {
   some = some-attr;
   rest = nothing-asked;
   at-tail = λ b w h. rw (tail-starts 60 [] (omega arith) b w h, tail-starts 38 (ascii "#") (omega arith) b w h) (legal-tail b w h);
   at-ref = λ w e. rw (less-ref w e, e);
   takes = λ u v c n b. rw (less-not u v c, n) (legal-takes u v (reclass c (true→T (xml-char (c .char)) (and-left (xml-char (c .char)) (none-of "<" (c .char)) (T→true (unless (c .char)) (c .in-class))))));
-  legal = λ u v k c n q e. (legal-by u v k c n (starts (ascii "<") (u ++ v)) refl e, tt);
+  legal = λ u v k c n q e.
+      let (f, g) = unless-refuses less-than (starts (ascii "<") (u ++ v)) (on "&#" char-ref legal-byte) (u ++ v) k e in
+      (reclass c (both (xml-char (c .char)) (none-of "<" (c .char)) (legal-char u v k c (rw n at g)) (not-one 60 (c .char) (λ z. true≢false (sym (less-is u v c z) ∙ f)))), tt);
 }
-  where
-    legal-by : (u v : List ℕ) (k : ℕ) → Ch any u → starts AR (u ++ v) ≡ false → (t : Bool) → starts (ascii "<") (u ++ v) ≡ t → pick t (refuse less-than) (on "&#" char-ref legal-byte) (u ++ v) ≡ ok k → Ch unless u
-    legal-by u v k c n true f e = absurd (err-ok less-than k e)
-    legal-by u v k c n false f e =
-        reclass c (both (xml-char (c .char)) (none-of "<" (c .char)) (legal-char u v k c (rw n at e)) (not-one 60 (c .char) (λ z. true≢false (sym (less-is u v c z) ∙ f))))
 
 pub attr-value-agree : Agrees check-attr-value AttText
 unfolding check-attr-value AttText Text

@@ -7,6 +7,7 @@ use mathlib.Core.Path.{_≡_, refl, sym, _∙_, ap, subst}
 use Prim.Native.Nat.{ℕ, _+_, _<_}
 use Prim.Native.String.{String}
 use native.Mathlib.Omega.{arith}
+use borrow.Author.Tests.{eqb-false}
 use lib.Dec.{T, eqb}
 use lib.ListN.{length, take, drop, length-append}
 use lib.Seq.{drop-append-seam, take-append-seam, take-at}
@@ -20,11 +21,11 @@ use Rattle.spec.specs.Reading.Wellformed.{reference, char-ref}
 use Rattle.spec.proofs.Agreement.Algebra.{swap}
 use Rattle.spec.proofs.Agreement.Chars.{kind-encode, ch-some}
 use Rattle.spec.proofs.Agreement.Reads.{Took, Reads, Next, Leads, seq, alt, weaken, as-lang, drop-took}
-use Rattle.spec.proofs.Agreement.Runs.{run-took, run-complete, ascii-lead}
+use Rattle.spec.proofs.Agreement.Runs.{run-took, run-complete, ascii-lead, star-plus}
 use Rattle.spec.proofs.Agreement.Signs.{kind, Sub, by-signs, sub-any}
 use Rattle.spec.proofs.Agreement.Words.{wd, first-of, starts-self, starts-clash, starts-split, starts-lit}
-use Rattle.spec.proofs.Base.Results.{err-ok, ok-inj}
-use Rattle.spec.proofs.Base.Tests.{T→true, true→T, false→no, eqb-yes, eqb-no, or-cases, or-false-left, or-false-right, within-hi}
+use Rattle.spec.proofs.Base.Results.{ok-inj, unless-refused, else-refused}
+use Rattle.spec.proofs.Base.Tests.{T→true, true→T, eqb-no, or-cases, or-false-left, or-false-right, within-hi, not-false}
 use Rattle.spec.proofs.Characters.Bytes.{avoids-append, class-avoids, avoids}
 use Rattle.spec.proofs.Characters.Text.{text-rest, ascii-text, star-one}
 
@@ -48,49 +49,31 @@ module _ (base : ℕ) (d : ℕ → Bool) (small : (c : ℕ) → T (d c) → c < 
 
   reference-sound : (w : List ℕ) (k : ℕ) → Text w → reference base d w ≡ ok k → Took (Digits · lit ";") k w
   unfolding reference denotes-char
-  reference-sound w k tw e = by-form (eqb (run d w) 0 || not (starts (ascii ";") (drop (run d w) w))) refl e
-    where
-      o : Took (Star (Ch d)) (run d w) w
-      o = run-took d small w tw
-
-      plus : (u : List ℕ) → Star (Ch d) u → (length u ≡ 0 → ⊥) → Plus (Ch d) u
-      plus u (end e) h = absurd (h (ap length e))
-      plus u (more x y e l s) h = record { left = x; right = y; split = e; first = l; second = s }
-
-      by-value : eqb (run d w) 0 ≡ false → (v : List ℕ) → o .rest ≡ ascii ";" ++ v → (t : Bool) → xml-char (value-on base 0 (take (run d w) w)) ≡ t → pick t (ok (run d w + 1)) (err illegal-reference) ≡ ok k → Took (Digits · lit ";") k w
-      by-value nz v f false g h = absurd (err-ok illegal-reference k h)
-      by-value nz v f true g h =
-          let z : take (run d w) w ≡ o .taken = ap (take (run d w)) (o .split) ∙ take-at (o .taken) (o .rest) (run d w) (o .size) in
-          record {
-            taken = o .taken ++ ascii ";";
-            rest = v;
-            split = o .split ∙ ap (λ (x : List ℕ). o .taken ++ x) f ∙ sym (append-assoc (o .taken) (ascii ";") v);
-            size = length-append (o .taken) (ascii ";") ∙ ap (λ (x : ℕ). x + 1) (o .size) ∙ ok-inj (run d w + 1) k h;
-            holds = record {
-              left = o .taken;
-              right = ascii ";";
-              split = refl;
-              first = (
-                plus (o .taken) (o .holds) (λ q. false→no (eqb (run d w) 0) nz (true→T (eqb (run d w) 0) (eqb-yes (run d w) 0 (sym (o .size) ∙ q)))),
-                true→T (xml-char (value-on base 0 (o .taken))) (ap (λ (x : List ℕ). xml-char (value-on base 0 x)) (sym z) ∙ g),
-              );
-              second = refl;
-            };
-            left = text-rest v (ascii-text (ascii ";") tt) (subst Text f (o .left));
-          }
-
-      by-form : (t : Bool) → (eqb (run d w) 0 || not (starts (ascii ";") (drop (run d w) w))) ≡ t
-          → pick t (err bad-reference) (pick (xml-char (value-on base 0 (take (run d w) w))) (ok (run d w + 1)) (err illegal-reference)) ≡ ok k → Took (Digits · lit ";") k w
-      by-form true f g = absurd (err-ok bad-reference k g)
-      by-form false f g =
-          let a : not (starts (ascii ";") (drop (run d w) w)) ≡ false = or-false-right (eqb (run d w) 0) (not (starts (ascii ";") (drop (run d w) w))) f in
-          let b : starts (ascii ";") (o .rest) ≡ true = ap (starts (ascii ";")) (sym (drop-took o)) ∙ not-false (starts (ascii ";") (drop (run d w) w)) a in
-          let (v, h) = starts-split (ascii ";") (o .rest) b in
-          by-value (or-false-left (eqb (run d w) 0) (not (starts (ascii ";") (drop (run d w) w))) f) v h (xml-char (value-on base 0 (take (run d w) w))) refl g
-        where
-          not-false : (t : Bool) → not t ≡ false → t ≡ true
-          not-false true e = refl
-          not-false false e = absurd (true≢false e)
+  reference-sound w k tw e =
+      let n : ℕ = run d w in
+      let value : ℕ = value-on base 0 (take n w) in
+      let ended : Bool = starts (ascii ";") (drop n w) in
+      let (f, g) = unless-refused bad-reference (eqb n 0 || not ended) (pick (xml-char value) (ok (n + 1)) (err illegal-reference)) k e in
+      let (c, m) = else-refused illegal-reference (xml-char value) (ok (n + 1)) k g in
+      let o : Took (Star (Ch d)) n w = run-took d small w tw in
+      let (v, h) = starts-split (ascii ";") (o .rest) (ap (starts (ascii ";")) (sym (drop-took o)) ∙ not-false ended (or-false-right (eqb n 0) (not ended) f)) in
+      let z : take n w ≡ o .taken = ap (take n) (o .split) ∙ take-at (o .taken) (o .rest) n (o .size) in
+      let l : length (o .taken) ≡ n = o .size in
+      let s : n ≡ 0 → ⊥ = eqb-false n 0 (or-false-left (eqb n 0) (not ended) f) in
+      record {
+        taken = o .taken ++ ascii ";";
+        rest = v;
+        split = o .split ∙ ap (λ (x : List ℕ). o .taken ++ x) h ∙ sym (append-assoc (o .taken) (ascii ";") v);
+        size = length-append (o .taken) (ascii ";") ∙ ap (λ (x : ℕ). x + 1) (o .size) ∙ ok-inj (n + 1) k m;
+        holds = record {
+          left = o .taken;
+          right = ascii ";";
+          split = refl;
+          first = (star-plus (o .holds) (omega arith), true→T (xml-char (value-on base 0 (o .taken))) (ap (λ (x : List ℕ). xml-char (value-on base 0 x)) (sym z) ∙ c));
+          second = refl;
+        };
+        left = text-rest v (ascii-text (ascii ";") tt) (subst Text h (o .left));
+      }
 
   reference-reads : Reads (reference base d) (Digits · lit ";") (Next any) d
   unfolding reference denotes-char
