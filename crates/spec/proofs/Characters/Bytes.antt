@@ -1,6 +1,6 @@
 -- The bytes of characters: above ASCII, tails, and bytes that a text does not have. Assumes nothing.
 use mathlib.Core.Logic
-use mathlib.Core.Bool.{Bool, true, false, _&&_, _||_, not, true≢false}
+use mathlib.Core.Bool.{Bool, true, false, _&&_, _||_, not, true≢false, and-assoc}
 use mathlib.Core.List.{List, [], _∷_, _++_}
 use mathlib.Core.Logic.{_⊎_}
 use mathlib.Core.Path.{_≡_, refl, sym, _∙_, ap, subst}
@@ -11,7 +11,7 @@ use lib.ListN.{length, length-append}
 use Rattle.spec.specs.Grammar.Languages.{Ch, inl, inr, Star, end, more, any}
 use Rattle.spec.specs.Grammar.Utf8.{encode}
 use Rattle.spec.specs.Reading.Utf8.{tail}
-use Rattle.spec.proofs.Base.Tests.{T→true, true→T, false→no, decide, leb-yes, leb-true, leb-false, eqb-yes, eqb-no, and-left, and-right, within-yes, within-lo}
+use Rattle.spec.proofs.Base.Tests.{T→true, true→T, false→no, decide, leb-yes, leb-true, leb-false, eqb-yes, eqb-no, and-left, and-right, within-yes, within-lo, not-true}
 use Rattle.spec.proofs.Characters.Utf8.{encode-1, encode-2, encode-3, encode-4}
 
 -- bytes that are all above ASCII
@@ -77,13 +77,15 @@ abbrev pub avoids : ℕ → List ℕ → Bool
 avoids a [] = true
 avoids a (b ∷ bs) = not (eqb b a) && avoids a bs
 
+pub avoids-head : (a b : ℕ) (u : List ℕ) → avoids a (b ∷ u) ≡ true → eqb b a ≡ false
+avoids-head a b u h = not-true (eqb b a) (and-left (not (eqb b a)) (avoids a u) h)
+
+pub avoids-tail : (a b : ℕ) (u : List ℕ) → avoids a (b ∷ u) ≡ true → avoids a u ≡ true
+avoids-tail a b u h = and-right (not (eqb b a)) (avoids a u) h
+
 pub avoids-append : (a : ℕ) (u v : List ℕ) → avoids a (u ++ v) ≡ (avoids a u && avoids a v)
 avoids-append a [] v = refl
-avoids-append a (b ∷ u) v = go (not (eqb b a)) (avoids-append a u v)
-  where
-    go : (t : Bool) → avoids a (u ++ v) ≡ (avoids a u && avoids a v) → (t && avoids a (u ++ v)) ≡ (t && avoids a u && avoids a v)
-    go true e = e
-    go false e = refl
+avoids-append a (b ∷ u) v = ap (λ (t : Bool). not (eqb b a) && t) (avoids-append a u v) ∙ sym (and-assoc (not (eqb b a)) (avoids a u) (avoids a v))
 
 pub avoids-high : (a : ℕ) (u : List ℕ) → a < 128 → T (all-high u) → avoids a u ≡ true
 avoids-high a [] l h = refl

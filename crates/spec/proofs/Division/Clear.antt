@@ -21,6 +21,7 @@ use Rattle.spec.specs.Premise.{quiet, bare, premised}
 use Rattle.spec.specs.Reading.Dtd.{has-pe-reference}
 use Rattle.spec.specs.Reading.Readers.{starts, contains, before}
 use Rattle.spec.specs.Reading.Scan.{Place, at, nowhere, later, subset-open, subset-end}
+use Rattle.spec.proofs.Agreement.Holds.{starts-cut}
 use Rattle.spec.proofs.Agreement.Tame.{Tame, Within, plain-bytes, within-cat, within-either, within-lit, within-none, within-s, within-s?, within-name, within-element}
 use Rattle.spec.proofs.Agreement.Words.{contains-at}
 use Rattle.spec.proofs.Base.Tests.{T→true, decide, leb-true, leb-false, eqb-yes, eqb-no, and-right}
@@ -192,20 +193,6 @@ clear-comment x c r =
         ∙ ap (later 1) (end-skip 0 x r) ∙ later-suc (length x) (subset-end 0 0 r))
 
 -- what ends in '>', with its quotes in pairs and nothing outside them that the scan would stop at
-abbrev lacks : ℕ → List ℕ → Bool
-lacks c [] = true
-lacks c (a ∷ p) = not (eqb c a) && lacks c p
-
-starts-seam : (c : ℕ) (p y r s : List ℕ) → lacks c p ≡ true → starts p (y ++ c ∷ r) ≡ starts p (y ++ c ∷ s)
-unfolding starts
-starts-seam c [] y r s h = refl
-starts-seam c (a ∷ p) [] r s h = go (eqb c a) h
-  where
-    go : (t : Bool) → (not t && lacks c p) ≡ true → (t && starts p r) ≡ (t && starts p s)
-    go true e = absurd (true≢false (sym e))
-    go false e = refl
-starts-seam c (a ∷ p) (b ∷ y) r s h = ap (λ (t : Bool). eqb b a && t) (starts-seam c p y r s (and-right (not (eqb c a)) (lacks c p) h))
-
 clear-quiet : (q : ℕ) (y r : List ℕ) → quiet q (y ++ 62 ∷ []) ≡ true → paired q (y ++ 62 ∷ []) ≡ true → subset-end 0 q (y ++ 62 ∷ r) ≡ later (suc (length y)) (subset-end 0 0 r)
 unfolding quiet paired subset-end starts
 clear-quiet zero [] r h k = refl
@@ -215,7 +202,7 @@ clear-quiet (suc q) [] r h k = go (eqb 62 (suc q)) k
     go true e = refl
     go false e = absurd (true≢false (sym e))
 clear-quiet zero (b ∷ y) r h k =
-    by-close (one-of "]" b) (starts (ascii "<!--") (b ∷ (y ++ 62 ∷ []))) h (starts-seam 62 (ascii "<!--") (b ∷ y) r [] refl)
+    by-close (one-of "]" b) (starts (ascii "<!--") (b ∷ (y ++ 62 ∷ []))) h (starts-cut 62 (ascii "<!--") (b ∷ y) r refl ∙ sym (starts-cut 62 (ascii "<!--") (b ∷ y) [] refl))
     (λ g. clear-quiet (pick (one-of "\"'" b) b 0) y r g k)
   where
     by-close : (s t : Bool) → ((not s && not t) && quiet (pick (one-of "\"'" b) b 0) (y ++ 62 ∷ [])) ≡ true → starts (ascii "<!--") (b ∷ (y ++ 62 ∷ r)) ≡ t

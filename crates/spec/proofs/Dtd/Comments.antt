@@ -1,6 +1,6 @@
 -- Comments. Assumes nothing.
 use mathlib.Core.Logic
-use mathlib.Core.Bool.{Bool, true, false, _&&_, _||_, not, true≢false}
+use mathlib.Core.Bool.{Bool, true, false, _&&_, true≢false}
 use mathlib.Core.List.{List, [], _∷_, _++_, append-assoc}
 use mathlib.Core.Logic.{_⊎_}
 use mathlib.Core.Path.{_≡_, refl, sym, _∙_, ap, subst}
@@ -18,34 +18,20 @@ use Rattle.spec.specs.Reading.Readers.{nothing, starts, choose, contains
 use Rattle.spec.specs.Reading.Refusals.{unterminated, unexpected, double-hyphen}
 use Rattle.spec.proofs.Agreement.Algebra.{cat₂, assoc}
 use Rattle.spec.proofs.Agreement.Chars.{ch-some}
+use Rattle.spec.proofs.Agreement.Holds.{contains-avoid, contains-after}
 use Rattle.spec.proofs.Agreement.Reads.{Reads, Next, seq, as-lang}
 use Rattle.spec.proofs.Agreement.Signs.{sub-any}
 use Rattle.spec.proofs.Agreement.UpTo.{up-to-reads}
 use Rattle.spec.proofs.Agreement.Words.{wd, first-of}
 use Rattle.spec.proofs.Base.Results.{unless-refuses}
 use Rattle.spec.proofs.Base.Tests.{decide, eqb-true, or-false-left, or-false-right}
-use Rattle.spec.proofs.Characters.Bytes.{avoids, class-avoids}
+use Rattle.spec.proofs.Characters.Bytes.{avoids, class-avoids, avoids-head}
 use Rattle.spec.proofs.Characters.Text.{star-one}
 use Rattle.spec.proofs.Characters.Utf8.{encode-1}
 
 -- no two hyphens in a row
 abbrev pub twice : List ℕ → Bool
 twice = contains (45 ∷ 45 ∷ [])
-
-twice-after : (x y : List ℕ) → twice (x ++ y) ≡ false → twice y ≡ false
-unfolding contains
-twice-after [] y e = e
-twice-after (b ∷ x) y e = twice-after x y (or-false-right (starts (45 ∷ 45 ∷ []) (b ∷ (x ++ y))) (twice (x ++ y)) e)
-
--- bytes that are no hyphens change nothing
-twice-avoid : (x y : List ℕ) → avoids 45 x ≡ true → twice (x ++ y) ≡ twice y
-unfolding contains starts
-twice-avoid [] y h = refl
-twice-avoid (b ∷ x) y h = go (eqb b 45) h (λ e. twice-avoid x y e)
-  where
-    go : (t : Bool) → (not t && avoids 45 x) ≡ true → (avoids 45 x ≡ true → twice (x ++ y) ≡ twice y) → ((t && starts (45 ∷ []) (x ++ y)) || twice (x ++ y)) ≡ twice y
-    go true e ih = absurd (true≢false (sym e))
-    go false e ih = ih e
 
 abbrev Other : Lang
 Other = Ch (none-of "-")
@@ -60,22 +46,18 @@ other-avoids c = class-avoids (none-of "-") 45 (omega arith) refl (star-one c)
 hyphen-first : (x y : List ℕ) → avoids 45 x ≡ true → 0 < length x → twice (45 ∷ (x ++ y)) ≡ twice (x ++ y)
 unfolding contains starts
 hyphen-first [] y h l = absurd (omega arith)
-hyphen-first (b ∷ x) y h l = go (eqb b 45) h
-  where
-    go : (t : Bool) → (not t && avoids 45 x) ≡ true → ((true && (t && true)) || ((t && starts (45 ∷ []) (x ++ y)) || twice (x ++ y))) ≡ ((t && starts (45 ∷ []) (x ++ y)) || twice (x ++ y))
-    go true e = absurd (true≢false (sym e))
-    go false e = refl
+hyphen-first (b ∷ x) y h l = rw (avoids-head 45 b x h)
 
 pub no-twice : {u : List ℕ} (o : List ℕ) → Star (Other ∣ (lit "-" · Other)) u → Opt (lit "-") o → twice (u ++ o) ≡ false
 unfolding contains starts
 no-twice o (end e) (inl m) = (λ i. twice (e i ++ m i))
 no-twice o (end e) (inr n) = (λ i. twice (e i ++ n i))
-no-twice o (more x y e (inl c) s) m = ap (λ (z : List ℕ). twice (z ++ o)) e ∙ ap twice (append-assoc x y o) ∙ twice-avoid x (y ++ o) (other-avoids c) ∙ no-twice o s m
+no-twice o (more x y e (inl c) s) m = ap (λ (z : List ℕ). twice (z ++ o)) e ∙ ap twice (append-assoc x y o) ∙ contains-avoid 45 (45 ∷ []) x (y ++ o) (other-avoids c) ∙ no-twice o s m
 no-twice o (more x y e (inr l) s) m =
     let c : Other (l .right) = l .second in
     let f : x ++ y ++ o ≡ 45 ∷ (l .right ++ (y ++ o)) = append-assoc x y o ∙ ap (λ (z : List ℕ). z ++ (y ++ o)) (l .split ∙ ap (λ (z : List ℕ). z ++ l .right) (l .first)) in
     ap (λ (z : List ℕ). twice (z ++ o)) e ∙ ap twice f ∙ hyphen-first (l .right) (y ++ o) (other-avoids c) (ch-some (l .right) c)
-    ∙ twice-avoid (l .right) (y ++ o) (other-avoids c) ∙ no-twice o s m
+    ∙ contains-avoid 45 (45 ∷ []) (l .right) (y ++ o) (other-avoids c) ∙ no-twice o s m
 
 -- a text with no two hyphens in a row, perhaps after a hyphen
 abbrev hyphened : Bool → List ℕ → List ℕ
@@ -104,13 +86,13 @@ unhyphened pre {u} (more x y e c s) h = go pre h (decide (eqb (c .char) 45)) (λ
     x-is f = c .bytes ∙ ap encode (eqb-true (c .char) 45 f) ∙ encode-1 45 (omega arith)
 
     go : (p : Bool) → twice (hyphened p u) ≡ false → (eqb (c .char) 45 ≡ true) ⊎ (eqb (c .char) 45 ≡ false) → ((p : Bool) → twice (hyphened p y) ≡ false → Unhyphened (hyphened p y)) → Unhyphened (hyphened p u)
-    go false g (Logic.inr f) ih = subst Unhyphened (sym e) (onto x (inl (other f)) (ih false (twice-after x y (ap twice (sym e) ∙ g))))
+    go false g (Logic.inr f) ih = subst Unhyphened (sym e) (onto x (inl (other f)) (ih false (contains-after (45 ∷ 45 ∷ []) x y (ap twice (sym e) ∙ g))))
     go false g (Logic.inl f) ih =
         let k : u ≡ 45 ∷ y = e ∙ ap (λ (z : List ℕ). z ++ y) (x-is f) in
         subst Unhyphened (sym k) (ih true (ap twice (sym k) ∙ g))
     go true g (Logic.inr f) ih =
         subst Unhyphened (sym (ap (λ (z : List ℕ). 45 ∷ z) e))
-        (onto (45 ∷ x) (inr (record { left = 45 ∷ []; right = x; split = refl; first = refl; second = other f })) (ih false (twice-after (45 ∷ x) y (ap (λ (z : List ℕ). twice (45 ∷ z)) (sym e) ∙ g))))
+        (onto (45 ∷ x) (inr (record { left = 45 ∷ []; right = x; split = refl; first = refl; second = other f })) (ih false (contains-after (45 ∷ 45 ∷ []) (45 ∷ x) y (ap (λ (z : List ℕ). twice (45 ∷ z)) (sym e) ∙ g))))
     go true g (Logic.inl f) ih =
         let k : u ≡ 45 ∷ y = e ∙ ap (λ (z : List ℕ). z ++ y) (x-is f) in
         absurd (true≢false (ap (λ (z : List ℕ). twice (45 ∷ z)) (sym k) ∙ g))

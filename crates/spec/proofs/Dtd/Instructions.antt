@@ -16,7 +16,7 @@ use Rattle.spec.specs.Grammar.Declarations.{PI}
 use Rattle.spec.specs.Grammar.Languages.{Lang, lit, ascii, Ch, _·_, inl, inr, Star, end, more, Plus, Opt, any, one-of, none-of, _∖_}
 use Rattle.spec.specs.Grammar.Names.{Dialect, Name, NCName, PITarget}
 use Rattle.spec.specs.Reading.Dtd.{reserved, check-target, check-pi, parse-pi}
-use Rattle.spec.specs.Reading.Readers.{ok, err, _>>_, starts, run, contains, before}
+use Rattle.spec.specs.Reading.Readers.{ok, err, _>>_, run, contains}
 use Rattle.spec.specs.Reading.Refusals.{has-colon, unterminated, unexpected, reserved-target}
 use Rattle.spec.specs.Reading.Wellformed.{check-name}
 use Rattle.spec.proofs.Agreement.Algebra.{cat₂, assoc}
@@ -26,41 +26,16 @@ use Rattle.spec.proofs.Agreement.Signs.{sub-any}
 use Rattle.spec.proofs.Agreement.UpTo.{up-to-reads}
 use Rattle.spec.proofs.Agreement.Words.{wd, first-of}
 use Rattle.spec.proofs.Base.Results.{then-ok, unless-refused}
-use Rattle.spec.proofs.Base.Tests.{T→true, true→T, no→false, or-false-left, or-false-right, and-left, and-right}
+use Rattle.spec.proofs.Base.Tests.{T→true, true→T, no→false, and-left, and-right}
 use Rattle.spec.proofs.Characters.Bytes.{avoids, avoids-append, class-avoids, text-front}
 use Rattle.spec.proofs.Characters.Text.{text-rest, ascii-char, star-one, all-ascii}
 use Rattle.spec.proofs.Characters.Utf8.{encode-1}
-use Rattle.spec.proofs.Agreement.Holds.{contains-avoid, contains-after, free-holds, holds-free}
+use Rattle.spec.proofs.Agreement.Holds.{contains-avoid, contains-after, free-holds, holds-free, first-after, after-first}
 use Rattle.spec.proofs.Dtd.Notations.{no-colon}
 use Rattle.spec.proofs.Wellformed.Names.{AsciiNames, start-sign, part-sign, check-name-whole}
 
 abbrev pub QG : List ℕ
 QG = 63 ∷ 62 ∷ []
-
-and-no : (b : Bool) → (b && false) ≡ false
-and-no true = refl
-and-no false = refl
-
--- the first "?>" after a text without it is the one that stands at its end
-pub first-mark : (u v : List ℕ) → contains QG u ≡ false → before QG (u ++ 63 ∷ 62 ∷ v) ≡ length u
-unfolding before contains starts
-first-mark [] v h = refl
-first-mark (b ∷ []) v h = rw (and-no (eqb b 63))
-first-mark (b ∷ d ∷ u) v h = go (eqb b 63 && (eqb d 62 && true)) (or-false-left (eqb b 63 && (eqb d 62 && true)) (contains QG (d ∷ u)) h) (first-mark (d ∷ u) v (or-false-right (eqb b 63 && (eqb d 62 && true)) (contains QG (d ∷ u)) h))
-  where
-    go : (t : Bool) → t ≡ false → before QG (d ∷ (u ++ 63 ∷ 62 ∷ v)) ≡ suc (length u) → pick t 0 (suc (before QG (d ∷ (u ++ 63 ∷ 62 ∷ v)))) ≡ suc (suc (length u))
-    go true e f = absurd (true≢false e)
-    go false e f = ap suc f
-
-mark-first : (u v : List ℕ) → before QG (u ++ 63 ∷ 62 ∷ v) ≡ length u → contains QG u ≡ false
-unfolding before contains starts
-mark-first [] v h = refl
-mark-first (b ∷ []) v h = rw (and-no (eqb b 63))
-mark-first (b ∷ d ∷ u) v h = go (eqb b 63 && (eqb d 62 && true)) h (λ e. mark-first (d ∷ u) v e)
-  where
-    go : (t : Bool) → pick t 0 (suc (before QG (d ∷ (u ++ 63 ∷ 62 ∷ v)))) ≡ suc (suc (length u)) → (before QG (d ∷ (u ++ 63 ∷ 62 ∷ v)) ≡ suc (length u) → contains QG (d ∷ u) ≡ false) → (t || contains QG (d ∷ u)) ≡ false
-    go true e f = absurd (omega arith)
-    go false e f = f (omega arith)
 
 abbrev pub Unmarked : Lang
 Unmarked = Text ∖ (Text · lit "?>" · Text)
@@ -224,4 +199,4 @@ module _ (D : Dialect) (A : AsciiNames D) where
   pi-reads =
       as-lang (cat₂ assoc)
       (seq (wd "<?" unexpected tt) sub-any
-      (up-to-reads "?>" unterminated (check-pi D) Inner 63 (62 ∷ []) refl tt (λ u v j tu h e. inner-sound u j tu (mark-first u v h) e) inner-complete (λ u v x. first-mark u v (inner-free u x))))
+      (up-to-reads "?>" unterminated (check-pi D) Inner 63 (62 ∷ []) refl tt (λ u v j tu h e. inner-sound u j tu (after-first 63 (62 ∷ []) refl u v h) e) inner-complete (λ u v x. first-after 63 (62 ∷ []) refl u v (inner-free u x))))

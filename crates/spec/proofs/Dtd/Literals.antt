@@ -1,23 +1,24 @@
 -- Literals in quotes, and external identifiers. Assumes nothing.
 use mathlib.Core.Logic
-use mathlib.Core.Bool.{Bool, true, false, _&&_, _||_, not, true≢false}
-use mathlib.Core.List.{List, [], _∷_, _++_}
+use mathlib.Core.Bool.{Bool, true, false, _&&_, _||_}
+use mathlib.Core.List.{List, [], _∷_}
 use mathlib.Core.Logic.{_⊎_}
-use mathlib.Core.Path.{_≡_, refl, sym, ap}
+use mathlib.Core.Path.{_≡_, refl}
 use Prim.Native.Nat.{ℕ, suc, _<_}
 use Prim.Native.String.{String}
 use native.Mathlib.Omega.{arith}
 use lib.Dec.{T, ltb, eqb}
 use lib.ListN.{length}
-use Rattle.spec.specs.Basics.{pick, within}
+use Rattle.spec.specs.Basics.{within}
 use Rattle.spec.specs.Grammar.Characters.{Text}
 use Rattle.spec.specs.Grammar.Languages.{Lang, lit, ascii, Ch, _·_, inl, inr, Star, any, one-of, none-of}
 use Rattle.spec.specs.Grammar.Literals.{Quoted, SystemLiteral, PubidLiteral, ExternalID, pubid-char}
 use Rattle.spec.specs.Grammar.References.{digit}
 use Rattle.spec.specs.Reading.Dtd.{parse-quoted, check-pubid, parse-external-id}
-use Rattle.spec.specs.Reading.Readers.{Result, ok, nothing, starts, run, before, up-to}
+use Rattle.spec.specs.Reading.Readers.{Result, ok, nothing, run, up-to}
 use Rattle.spec.specs.Reading.Refusals.{Refusal, unterminated, no-literal, unexpected, bad-pubid}
 use Rattle.spec.proofs.Agreement.Choices.{on-word}
+use Rattle.spec.proofs.Agreement.Holds.{first-sign, sign-first}
 use Rattle.spec.proofs.Agreement.Reads.{Reads, Next, seq, weaken}
 use Rattle.spec.proofs.Agreement.Runs.{need, whole-run, run-whole, among-ascii}
 use Rattle.spec.proofs.Agreement.Signs.{Class, by-signs, sub-any, sub-refl}
@@ -28,25 +29,6 @@ use Rattle.spec.proofs.Base.Tests.{T→true, true→T, leb-yes, eqb-tru
 use Rattle.spec.proofs.Characters.Bytes.{avoids, class-avoids, avoids-class, not-one}
 use Rattle.spec.proofs.Characters.Text.{star-map}
 
--- a literal: the first place of the quote, when the quote's byte stands nowhere before it
-before-avoids : (a : ℕ) (u v : List ℕ) → avoids a u ≡ true → before (a ∷ []) (u ++ a ∷ v) ≡ length u
-unfolding before starts
-before-avoids a [] v h = rw (eqb-yes a a refl)
-before-avoids a (b ∷ u) v h = go (eqb b a) h (λ e. before-avoids a u v e)
-  where
-    go : (t : Bool) → (not t && avoids a u) ≡ true → (avoids a u ≡ true → before (a ∷ []) (u ++ a ∷ v) ≡ length u) → pick (t && true) 0 (suc (before (a ∷ []) (u ++ a ∷ v))) ≡ suc (length u)
-    go true e ih = absurd (true≢false (sym e))
-    go false e ih = ap suc (ih e)
-
-avoids-before : (a : ℕ) (u v : List ℕ) → before (a ∷ []) (u ++ a ∷ v) ≡ length u → avoids a u ≡ true
-unfolding before starts
-avoids-before a [] v h = refl
-avoids-before a (b ∷ u) v h = go (eqb b a) h (λ e. avoids-before a u v e)
-  where
-    go : (t : Bool) → pick (t && true) 0 (suc (before (a ∷ []) (u ++ a ∷ v))) ≡ suc (length u) → (before (a ∷ []) (u ++ a ∷ v) ≡ length u → avoids a u ≡ true) → (not t && avoids a u) ≡ true
-    go true e ih = absurd (omega arith)
-    go false e ih = ih (omega arith)
-
 -- what may stand in a literal: a text without the quote that passes the check
 pub record Inside (check : List ℕ → Result) (X : Lang) (a : ℕ) : Type 0 where
   pub sound-in : (u : List ℕ) (j : ℕ) → Text u → avoids a u ≡ true → check u ≡ ok j → X u
@@ -56,7 +38,7 @@ pub record Inside (check : List ℕ → Result) (X : Lang) (a : ℕ) : Type 0 wh
 up-to-quote : (s : String) (a : ℕ) (n : Refusal) (check : List ℕ → Result) (X : Lang) → ascii s ≡ a ∷ [] → a < 128 → Inside check X a → Reads (up-to s n check) (X · lit s) (Next any) any
 up-to-quote s a n check X is l i =
     up-to-reads s n check X a [] is (true→T (ltb a 128 && true) (rw (leb-yes (suc a) 128 l)))
-    (λ u v j tu h e. i .sound-in u j tu (avoids-before a u v h) e) (i .complete-in) (λ u v x. before-avoids a u v (i .free u x))
+    (λ u v j tu h e. i .sound-in u j tu (sign-first a u v h) e) (i .complete-in) (λ u v x. first-sign a u v (i .free u x))
 
 -- the quotes, as signs
 abbrev pub quote-first : Class

@@ -1,7 +1,7 @@
 -- Entity values and attribute values: literals whose character references are checked. Assumes nothing.
-use mathlib.Core.Bool.{Bool, true, false, _&&_, not, true≢false}
-use mathlib.Core.List.{List, [], _∷_, _++_, append-nil}
-use mathlib.Core.Path.{_≡_, refl, sym, _∙_, ap}
+use mathlib.Core.Bool.{Bool, true, false, not}
+use mathlib.Core.List.{List, [], _∷_, _++_}
+use mathlib.Core.Path.{_≡_, refl}
 use Prim.Native.Nat.{ℕ, _<_}
 use native.Mathlib.Omega.{arith}
 use lib.Dec.{T, eqb}
@@ -16,11 +16,11 @@ use Rattle.spec.specs.Reading.Refusals.{less-than}
 use Rattle.spec.specs.Reading.Utf8.{tail}
 use Rattle.spec.specs.Reading.Wellformed.{ref-or-byte, check-char-refs}
 use Rattle.spec.proofs.Agreement.Chars.{ch-some}
-use Rattle.spec.proofs.Agreement.Holds.{contains-avoid}
+use Rattle.spec.proofs.Agreement.Holds.{contains-avoids, avoids-contains}
 use Rattle.spec.proofs.Agreement.Reads.{Reads, Next}
 use Rattle.spec.proofs.Base.Results.{unless-refuses}
 use Rattle.spec.proofs.Base.Somes.{some-ref-or-byte}
-use Rattle.spec.proofs.Base.Tests.{within-lo, eqb-no, or-false-left, or-false-right}
+use Rattle.spec.proofs.Base.Tests.{within-lo, eqb-no}
 use Rattle.spec.proofs.Characters.Bytes.{avoids, avoids-parted, avoids-char, not-one}
 use Rattle.spec.proofs.Dtd.Literals.{Inside, quoted-reads, quote-first}
 use Rattle.spec.proofs.Wellformed.References.{Foreign, ref-avoids}
@@ -99,26 +99,13 @@ entity-value-reads =
 abbrev less : List ℕ → Bool
 less = contains (60 ∷ [])
 
-less-avoids : (u : List ℕ) → less u ≡ false → avoids 60 u ≡ true
-unfolding contains starts
-less-avoids [] h = refl
-less-avoids (b ∷ u) h = go (eqb b 60) (or-false-left (eqb b 60 && true) (less u) h) (less-avoids u (or-false-right (eqb b 60 && true) (less u) h))
-  where
-    go : (t : Bool) → (t && true) ≡ false → avoids 60 u ≡ true → (not t && avoids 60 u) ≡ true
-    go true e f = absurd (true≢false e)
-    go false e f = f
-
-avoids-less : (u : List ℕ) → avoids 60 u ≡ true → less u ≡ false
-unfolding contains
-avoids-less u h = ap less (sym (append-nil u)) ∙ contains-avoid 60 [] u [] h
-
 att-inside : (a : ℕ) (p : ℕ → Bool) → Foreign a → p a ≡ false → p 60 ≡ false → ((c : ℕ) → (c ≡ a → ⊥) → (c ≡ 60 → ⊥) → T (p c)) → Inside check-att-value (Referring p) a
 unfolding check-att-value choose
 att-inside a p f n m in-p = record {
   sound-in = λ u j tu h e.
       let (f, g) = unless-refuses less-than (less u) check-char-refs u j e in
-      refs-sound p Q rest classed u j tu (h, less-avoids u f) g;
-  complete-in = λ u r. (length u, rw (avoids-less u (ref-avoids p 60 less-foreign m u r)) (refs-complete p Q rest classed u r (ref-avoids p a f n u r, ref-avoids p 60 less-foreign m u r)));
+      refs-sound p Q rest classed u j tu (h, contains-avoids 60 u f) g;
+  complete-in = λ u r. (length u, rw (avoids-contains 60 [] u (ref-avoids p 60 less-foreign m u r)) (refs-complete p Q rest classed u r (ref-avoids p a f n u r, ref-avoids p 60 less-foreign m u r)));
   free = ref-avoids p a f n;
 }
   where

@@ -1,7 +1,7 @@
 -- What the command hands to the checks: the very text of the DOCTYPE, and of the XML declaration. Assumes nothing.
-use mathlib.Core.Bool.{true, false}
-use mathlib.Core.List.{List, [], _∷_, _++_, append-assoc, append-nil}
-use mathlib.Core.Path.{_≡_, refl, sym, _∙_, ap}
+use mathlib.Core.Bool.{true}
+use mathlib.Core.List.{List, [], _∷_, _++_, append-assoc}
+use mathlib.Core.Path.{_≡_, refl, _∙_, ap}
 use Prim.Native.Nat.{ℕ, _+_}
 use Prim.Native.String.{String}
 use native.Mathlib.Omega.{arith}
@@ -15,15 +15,14 @@ use Rattle.spec.specs.Grammar.References.{digit}
 use Rattle.spec.specs.Grammar.XmlDecl.{Eq, VersionNum, VersionInfo, latin-letter, enc-char, EncName, EncodingDecl, SDDecl, XMLDecl}
 use Rattle.spec.specs.Promises.{Covered}
 use Rattle.spec.specs.Reading.Prolog.{declaration, doctype, declared, docked, word-at, is-declaration, doctype-end, next-item}
-use Rattle.spec.specs.Reading.Readers.{starts, contains, run}
+use Rattle.spec.specs.Reading.Readers.{starts, run}
 use Rattle.spec.specs.Reading.Scan.{at}
 use Rattle.spec.proofs.Agreement.Chars.{begins-ch}
-use Rattle.spec.proofs.Agreement.Holds.{contains-avoid}
+use Rattle.spec.proofs.Agreement.Holds.{first-after, avoids-contains}
 use Rattle.spec.proofs.Agreement.Words.{contains-at}
 use Rattle.spec.proofs.Base.Tests.{T→true, true→T}
 use Rattle.spec.proofs.Characters.Bytes.{avoids, class-avoids}
 use Rattle.spec.proofs.Characters.Text.{star-one, reclass}
-use Rattle.spec.proofs.Dtd.Instructions.{first-mark}
 use Rattle.spec.proofs.Prolog.Heads.{doctype-ends}
 use Rattle.spec.proofs.Prolog.Misc.{pass-misc, ends-target, space-ends}
 use Rattle.spec.proofs.Prolog.Turns.{moved, next-declaration, next-doctype}
@@ -115,8 +114,5 @@ declaration-handed t r x =
     w : List ℕ
     w = 60 ∷ 63 ∷ (t ++ (63 ∷ 62 ∷ r))
 
-    free : contains (63 ∷ 62 ∷ []) t ≡ false
-    free = ap (contains (63 ∷ 62 ∷ [])) (sym (append-nil t)) ∙ contains-avoid 63 (62 ∷ []) t [] (unasked t x) ∙ (unfold contains in refl)
-
     mark : word-at "?>" (t ++ (63 ∷ 62 ∷ r)) ≡ at (length t)
-    mark = unfold word-at in rw (contains-at 63 (62 ∷ []) t r, first-mark t r free)
+    mark = unfold word-at in rw (contains-at 63 (62 ∷ []) t r, first-after 63 (62 ∷ []) refl t r (avoids-contains 63 (62 ∷ []) t (unasked t x)))

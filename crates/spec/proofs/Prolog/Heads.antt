@@ -15,8 +15,9 @@ use Rattle.spec.specs.Grammar.Names.{Dialect}
 use Rattle.spec.specs.Premise.{bare}
 use Rattle.spec.specs.Promises.{Covered, no-subset, has-subset}
 use Rattle.spec.specs.Reading.Prolog.{word-at, head-end, after-head, after-subset, doctype-end}
-use Rattle.spec.specs.Reading.Readers.{starts, before}
+use Rattle.spec.specs.Reading.Readers.{starts}
 use Rattle.spec.specs.Reading.Scan.{Place, at, later, subset-end}
+use Rattle.spec.proofs.Agreement.Holds.{first-sign}
 use Rattle.spec.proofs.Agreement.Words.{contains-at}
 use Rattle.spec.proofs.Base.Tests.{eqb-yes}
 use Rattle.spec.proofs.Characters.Bytes.{avoids, class-avoids}
@@ -61,16 +62,6 @@ head-passes = record {
   double = λ x r h. literal 33 x r refl refl h;
   single = λ x r h. literal 38 x r refl refl h;
 }
-
--- the first place of a sign that a text does not have is where it stands after it
-pub first-sign : (a : ℕ) (u v : List ℕ) → avoids a u ≡ true → before (a ∷ []) (u ++ a ∷ v) ≡ length u
-unfolding before starts
-first-sign a [] v h = rw (eqb-yes a a refl)
-first-sign a (b ∷ u) v h = go (eqb b a) h (first-sign a u v)
-  where
-    go : (t : Bool) → (not t && avoids a u) ≡ true → (avoids a u ≡ true → before (a ∷ []) (u ++ a ∷ v) ≡ length u) → pick (t && true) 0 (suc (before (a ∷ []) (u ++ a ∷ v))) ≡ suc (length u)
-    go true e ih = absurd (true≢false (sym e))
-    go false e ih = ap suc (ih e)
 
 module _ (D : Dialect) (A : AsciiNames D) where
   clear-head : (w : List ℕ) → Front D w → Clear (head-end 0) w

@@ -21,6 +21,7 @@ use Rattle.spec.specs.Reading.Prolog.{word-at, is-declaration, next-item
 use Rattle.spec.specs.Reading.Readers.{of-point, begins, starts, run}
 use Rattle.spec.specs.Reading.Utf8.{Point, point, no-point, decode1}
 use Rattle.spec.proofs.Agreement.Chars.{ch-some, sign, kind-encode}
+use Rattle.spec.proofs.Agreement.Holds.{first-after}
 use Rattle.spec.proofs.Agreement.Runs.{among-ascii, space-ascii}
 use Rattle.spec.proofs.Agreement.Signs.{kind}
 use Rattle.spec.proofs.Agreement.Words.{contains-at, starts-split}
@@ -29,7 +30,7 @@ use Rattle.spec.proofs.Characters.Bytes.{avoids}
 use Rattle.spec.proofs.Characters.Text.{all-ascii}
 use Rattle.spec.proofs.Characters.Utf8.{encode-1, decode-1, decode-read, Read}
 use Rattle.spec.proofs.Dtd.Comments.{twice, no-twice, first-close}
-use Rattle.spec.proofs.Dtd.Instructions.{Unmarked, Inner, first-mark, inner-free, sign-avoids, reserved-xml}
+use Rattle.spec.proofs.Dtd.Instructions.{Unmarked, Inner, inner-free, sign-avoids, reserved-xml}
 use Rattle.spec.proofs.Prolog.Turns.{moved, moved-moved, moved-none, next-space, next-comment, next-instruction}
 use Rattle.spec.proofs.Wellformed.Names.{AsciiNames}
 
@@ -211,7 +212,7 @@ module _ (D : Dialect) (A : AsciiNames D) where
       one : (i : List ℕ) → Inner D A i → is-declaration (60 ∷ 63 ∷ (i ++ (63 ∷ 62 ∷ z))) ≡ false → next-item (60 ∷ 63 ∷ (i ++ (63 ∷ 62 ∷ z))) ≡ moved (length i + 4) (next-item (drop (length i + 4) (60 ∷ 63 ∷ (i ++ (63 ∷ 62 ∷ z)))))
       one i c d =
           next-instruction (60 ∷ 63 ∷ (i ++ (63 ∷ 62 ∷ z))) (unfold run in refl) (unfold starts in refl) d (unfold starts in refl) (length i)
-          (unfold word-at in (rw (contains-at 63 (62 ∷ []) i z, first-mark i z (inner-free D A i c))))
+          (unfold word-at in (rw (contains-at 63 (62 ∷ []) i z, first-after 63 (62 ∷ []) refl i z (inner-free D A i c))))
 
   pub pass-misc : {m : List ℕ} (z : List ℕ) → Star (Misc D) m → next-item (m ++ z) ≡ moved (length m) (next-item z)
   unfolding Misc
