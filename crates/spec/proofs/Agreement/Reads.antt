@@ -58,20 +58,23 @@ took-as f e t = record { taken = t .taken; rest = t .rest; split = t .split; siz
 pub took-none : {L : Lang} {k : ℕ} {w : List ℕ} → 0 ≡ k → Text w → L [] → Took L k w
 took-none {w = w} e tw l = record { taken = []; rest = w; split = refl; size = e; holds = l; left = tw }
 
+-- a part, and the part after it
+pub took-then : {L M : Lang} {k j n : ℕ} {w : List ℕ} (t : Took L k w) → Took M j (t .rest) → k + j ≡ n → Took (L · M) n w
+took-then t t₂ l = record {
+  taken = t .taken ++ t₂ .taken;
+  rest = t₂ .rest;
+  split = t .split ∙ ap (λ (x : List ℕ). t .taken ++ x) (t₂ .split) ∙ sym (append-assoc (t .taken) (t₂ .taken) (t₂ .rest));
+  size = length-append (t .taken) (t₂ .taken) ∙ (λ i. t .size i + t₂ .size i) ∙ l;
+  holds = record { left = t .taken; right = t₂ .taken; split = refl; first = t .holds; second = t₂ .holds };
+  left = t₂ .left;
+}
+
 -- one after the other, where the second may use how the first ended
 pub sound-after : (P : List ℕ → Type 0) (r s : Reader) (L M : Lang) → Sound r L → ((w : List ℕ) (k : ℕ) → r w ≡ ok k → P (drop k w)) → ((w : List ℕ) (k : ℕ) → P w → Text w → s w ≡ ok k → Took M k w) → Sound (r >> s) (L · M)
 sound-after P r s L M sr ended ss w n tw e =
     let (k, j, f, g, l) = then-ok r s w n e in
     let t : Took L k w = sr w k tw f in
-    let t₂ : Took M j (t .rest) = ss (t .rest) j (subst P (drop-took t) (ended w k f)) (t .left) (ap s (sym (drop-took t)) ∙ g) in
-    record {
-      taken = t .taken ++ t₂ .taken;
-      rest = t₂ .rest;
-      split = t .split ∙ ap (λ (x : List ℕ). t .taken ++ x) (t₂ .split) ∙ sym (append-assoc (t .taken) (t₂ .taken) (t₂ .rest));
-      size = length-append (t .taken) (t₂ .taken) ∙ (λ i. t .size i + t₂ .size i) ∙ l;
-      holds = record { left = t .taken; right = t₂ .taken; split = refl; first = t .holds; second = t₂ .holds };
-      left = t₂ .left;
-    }
+    took-then t (ss (t .rest) j (subst P (drop-took t) (ended w k f)) (t .left) (ap s (sym (drop-took t)) ∙ g)) l
 
 pub sound-seq : (r s : Reader) (L M : Lang) → Sound r L → Sound s M → Sound (r >> s) (L · M)
 sound-seq r s L M sr ss = sound-after (λ w. T true) r s L M sr (λ w k e. tt) (λ w k p tw e. ss w k tw e)

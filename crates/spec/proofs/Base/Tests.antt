@@ -1,11 +1,13 @@
 -- Tests and the facts that they stand for. Assumes nothing.
-use mathlib.Core.Bool.{Bool, true, false, _&&_, _||_, not, true≢false}
-use mathlib.Core.Logic.{_⊎_, inl, inr}
-use mathlib.Core.Path.{_≡_, refl, sym, subst}
+use mathlib.Core.Bool.{Bool, true, false, _&&_, _||_, not, true≢false, or-false}
+use mathlib.Core.List.{List, [], _∷_}
+use mathlib.Core.Logic.{_⊎_, inl, inr, ⊎-elim}
+use mathlib.Core.Path.{_≡_, refl, sym, subst, _∙_, ap}
 use Prim.Native.Nat.{ℕ, _≤_, _<_}
 use native.Mathlib.Omega.{arith}
 use lib.Dec.{T, leb, eqb, leb→le, le→leb, nleb→lt, eqb→eq, eqb-refl}
 use Rattle.spec.specs.Basics.{within}
+use Rattle.spec.specs.Grammar.Languages.{among}
 
 pub T→true : (b : Bool) → T b → b ≡ true
 T→true true t = refl
@@ -107,3 +109,25 @@ alike-same true true e = refl
 alike-same true false e = sym e
 alike-same false true e = e
 alike-same false false e = refl
+
+-- a sign of a word of one, and of two
+pub one-sign : (a b : ℕ) → among (a ∷ []) b ≡ true → b ≡ a
+one-sign a b e = eqb-true b a (sym (or-false (eqb b a)) ∙ e)
+
+pub two-signs : (a d b : ℕ) → among (a ∷ d ∷ []) b ≡ true → (b ≡ a) ⊎ (b ≡ d)
+two-signs a d b e = ⊎-elim (λ f. inl (eqb-true b a f)) (λ f. inr (one-sign d b f)) (or-cases (eqb b a) (among (d ∷ []) b) e)
+
+-- the signs of one word are among those of another: computed
+abbrev pub all-among : List ℕ → List ℕ → Bool
+all-among [] s = true
+all-among (a ∷ t) s = among s a && all-among t s
+
+-- what is none of the other's signs is none of its own, and what is one of its own is one of the other's
+pub none-sub : (t s : List ℕ) → T (all-among t s) → (b : ℕ) → among s b ≡ false → among t b ≡ false
+none-sub [] s h b n = refl
+none-sub (a ∷ t) s h b n =
+    let i : (among s a && all-among t s) ≡ true = T→true (all-among (a ∷ t) s) h in
+    rw (eqb-no b a (λ e. true≢false (sym (and-left (among s a) (all-among t s) i) ∙ ap (among s) (sym e) ∙ n))) (none-sub t s (true→T (all-among t s) (and-right (among s a) (all-among t s) i)) b n)
+
+pub among-sub : (t s : List ℕ) → T (all-among t s) → (b : ℕ) → among t b ≡ true → among s b ≡ true
+among-sub t s h b e = ⊎-elim (λ y. y) (λ n. absurd (true≢false (sym e ∙ none-sub t s h b n))) (decide (among s b))

@@ -1,6 +1,6 @@
 -- Parts of a text that a scan passes: what it finds after them is what it would find there alone. Assumes nothing.
 use mathlib.Core.Logic
-use mathlib.Core.Bool.{Bool, true, false, _&&_, _||_, not, true≢false}
+use mathlib.Core.Bool.{Bool, true, false, _&&_, _||_, not, true≢false, or-false}
 use mathlib.Core.List.{List, [], _∷_, _++_, append-assoc}
 use mathlib.Core.Logic.{_⊎_}
 use mathlib.Core.Path.{_≡_, refl, sym, _∙_, ap, subst}
@@ -24,8 +24,8 @@ use Rattle.spec.specs.Reading.Scan.{Place, at, nowhere, later, subset-op
 use Rattle.spec.proofs.Agreement.Holds.{starts-cut}
 use Rattle.spec.proofs.Agreement.Tame.{Tame, Within, plain-bytes, within-cat, within-either, within-lit, within-none, within-s, within-s?, within-name, within-element}
 use Rattle.spec.proofs.Agreement.Words.{contains-at}
-use Rattle.spec.proofs.Base.Tests.{T→true, decide, leb-true, leb-false, eqb-yes, eqb-no, and-right}
-use Rattle.spec.proofs.Characters.Bytes.{all-high, high-head, high-tail, high-encode, avoids, class-avoids}
+use Rattle.spec.proofs.Base.Tests.{T→true, decide, leb-true, leb-false, eqb-yes, eqb-no, and-right, none-sub, not-true}
+use Rattle.spec.proofs.Characters.Bytes.{all-high, high-head, high-tail, high-encode, avoids, class-avoids, avoids-head, avoids-tail}
 use Rattle.spec.proofs.Characters.Utf8.{encode-1}
 use Rattle.spec.proofs.Division.Parts.{Filling, last, next, Premise}
 use Rattle.spec.proofs.Division.Quoting.{paired, quoting}
@@ -54,118 +54,86 @@ clear-append f x y a b r =
     ap f (append-assoc x y r) ∙ a (y ++ r) ∙ ap (later (length x)) (b r) ∙ later-later (length x) (length y) (f r)
     ∙ ap (λ (n : ℕ). later n (f r)) (sym (length-append x y))
 
--- a scan that passes single signs and literals
-pub record Passes (f : List ℕ → Place) : Type 0 where
-  pub plain : (b : ℕ) (r : List ℕ) → T (none-of "\"'<>[]" b) → f (b ∷ r) ≡ later 1 (f r)
-  pub double : (x r : List ℕ) → avoids 34 x ≡ true → f (34 ∷ (x ++ (34 ∷ r))) ≡ later (suc (length x + 1)) (f r)
-  pub single : (x r : List ℕ) → avoids 39 x ≡ true → f (39 ∷ (x ++ (39 ∷ r))) ≡ later (suc (length x + 1)) (f r)
+-- a scan whose state is the open quote, or 0: what it passes inside quotes, and outside them
+pub record Quoting (f : ℕ → List ℕ → Place) : Type 0 where
+  pub inside : (q b : ℕ) (w : List ℕ) → f (suc q) (b ∷ w) ≡ later 1 (f (pick (eqb b (suc q)) 0 (suc q)) w)
+  pub double : (w : List ℕ) → f 0 (34 ∷ w) ≡ later 1 (f 34 w)
+  pub single : (w : List ℕ) → f 0 (39 ∷ w) ≡ later 1 (f 39 w)
+  pub plain : (b : ℕ) (w : List ℕ) → one-of "\"'<>[]" b ≡ false → f 0 (b ∷ w) ≡ later 1 (f 0 w)
 
-module _ {f : List ℕ → Place} (P : Passes f) where
-  clear-cons : (b : ℕ) (x : List ℕ) → T (none-of "\"'<>[]" b) → Clear f x → Clear f (b ∷ x)
-  clear-cons b x t c r = P .plain b (x ++ r) t ∙ ap (later 1) (c r) ∙ later-suc (length x) (f r)
+-- a part between two words
+quoted-is : (s t : String) {M : Lang} {x : List ℕ} (l : (lit s · M · lit t) x) → x ≡ ascii s ++ (l .second .left ++ ascii t)
+quoted-is s t l = l .split ∙ (λ i. l .first i ++ (l .second .split ∙ ap (λ (z : List ℕ). l .second .left ++ z) (l .second .second)) i)
 
-  clear-none : Clear f []
-  clear-none r = later-zero (f r)
+module _ {f : ℕ → List ℕ → Place} (P : Quoting f) where
+  clear-cons : (b : ℕ) (x : List ℕ) → one-of "\"'<>[]" b ≡ false → Clear (f 0) x → Clear (f 0) (b ∷ x)
+  clear-cons b x t c r = P .plain b (x ++ r) t ∙ ap (later 1) (c r) ∙ later-suc (length x) (f 0 r)
 
-  clear-high : (x : List ℕ) → T (all-high x) → Clear f x
+  clear-none : Clear (f 0) []
+  clear-none r = later-zero (f 0 r)
+
+  clear-high : (x : List ℕ) → T (all-high x) → Clear (f 0) x
   clear-high [] h = clear-none
   clear-high (b ∷ x) h =
       let g : 128 ≤ b = high-head b x h in
       clear-cons b x
-      (rw (eqb-no b 34 (λ e. omega arith), eqb-no b 39 (λ e. omega arith), eqb-no b 60 (λ e. omega arith), eqb-no b 62 (λ e. omega arith), eqb-no b 91 (λ e. omega arith), eqb-no b 93 (λ e. omega arith)) tt)
+      (rw (eqb-no b 34 (λ e. omega arith), eqb-no b 39 (λ e. omega arith), eqb-no b 60 (λ e. omega arith), eqb-no b 62 (λ e. omega arith), eqb-no b 91 (λ e. omega arith), eqb-no b 93 (λ e. omega arith)))
       (clear-high x (high-tail b x h))
 
-  clear-ch : (x : List ℕ) → Ch (none-of "\"'<>[]") x → Clear f x
-  clear-ch x c = subst (Clear f) (sym (c .bytes)) (go (decide (ltb (c .char) 128)))
+  clear-ch : (x : List ℕ) → Ch (none-of "\"'<>[]") x → Clear (f 0) x
+  clear-ch x c = subst (Clear (f 0)) (sym (c .bytes)) (go (decide (ltb (c .char) 128)))
     where
-      go : (ltb (c .char) 128 ≡ true) ⊎ (ltb (c .char) 128 ≡ false) → Clear f (encode (c .char))
-      go (Logic.inl t) = subst (Clear f) (sym (encode-1 (c .char) (leb-true (suc (c .char)) 128 t))) (clear-cons (c .char) [] (c .in-class) clear-none)
+      go : (ltb (c .char) 128 ≡ true) ⊎ (ltb (c .char) 128 ≡ false) → Clear (f 0) (encode (c .char))
+      go (Logic.inl t) =
+          subst (Clear (f 0)) (sym (encode-1 (c .char) (leb-true (suc (c .char)) 128 t)))
+          (clear-cons (c .char) [] (not-true (one-of "\"'<>[]" (c .char)) (T→true (none-of "\"'<>[]" (c .char)) (c .in-class))) clear-none)
       go (Logic.inr t) = let g : 128 < suc (c .char) = leb-false (suc (c .char)) 128 t in clear-high (encode (c .char)) (high-encode (c .char) (omega arith))
 
-  clear-literal : (x : List ℕ) → SystemLiteral x → Clear f x
-  unfolding SystemLiteral
-  clear-literal x (inl l) r =
-      let d : List ℕ = l .second .left in
-      let e : x ≡ 34 ∷ (d ++ (34 ∷ [])) = l .split ∙ (λ i. l .first i ++ (l .second .split ∙ ap (λ (z : List ℕ). d ++ z) (l .second .second)) i) in
-      ap (λ (z : List ℕ). f (z ++ r)) e ∙ ap (λ (z : List ℕ). f (34 ∷ z)) (append-assoc d (34 ∷ []) r)
-      ∙ P .double d r (class-avoids (none-of "\"") 34 (omega arith) refl (l .second .first))
-      ∙ ap (λ (n : ℕ). later (suc n) (f r)) (sym (length-append d (34 ∷ []))) ∙ ap (λ (z : List ℕ). later (length z) (f r)) (sym e)
-  clear-literal x (inr l) r =
-      let d : List ℕ = l .second .left in
-      let e : x ≡ 39 ∷ (d ++ (39 ∷ [])) = l .split ∙ (λ i. l .first i ++ (l .second .split ∙ ap (λ (z : List ℕ). d ++ z) (l .second .second)) i) in
-      ap (λ (z : List ℕ). f (z ++ r)) e ∙ ap (λ (z : List ℕ). f (39 ∷ z)) (append-assoc d (39 ∷ []) r)
-      ∙ P .single d r (class-avoids (none-of "'") 39 (omega arith) refl (l .second .first))
-      ∙ ap (λ (n : ℕ). later (suc n) (f r)) (sym (length-append d (39 ∷ []))) ∙ ap (λ (z : List ℕ). later (length z) (f r)) (sym e)
+  pass-inside : (q : ℕ) (x r : List ℕ) → avoids (suc q) x ≡ true → f (suc q) (x ++ r) ≡ later (length x) (f (suc q) r)
+  pass-inside q [] r h = later-zero (f (suc q) r)
+  pass-inside q (b ∷ x) r h =
+      P .inside q b (x ++ r) ∙ (rw (avoids-head (suc q) b x h, pass-inside q x r (avoids-tail (suc q) b x h)) (later-suc (length x) (f (suc q) r)))
 
-  pub clear-tame : {x : List ℕ} → Tame x → Clear f x
-  clear-tame (end e) = subst (Clear f) (sym e) clear-none
-  clear-tame (more u v e i s) = subst (Clear f) (sym e) (clear-append f u v (item i) (clear-tame s))
+  -- a quote, its inside d and the quote again
+  clear-quoted : (q : ℕ) (p : ℕ → Bool) (x d : List ℕ) → ((w : List ℕ) → f 0 (suc q ∷ w) ≡ later 1 (f (suc q) w)) → suc q < 128 → p (suc q) ≡ false → Star (Ch p) d → x ≡ suc q ∷ (d ++ (suc q ∷ [])) → Clear (f 0) x
+  clear-quoted q p x d opens small n s e r =
+      ap (λ (z : List ℕ). f 0 (z ++ r)) e ∙ ap (λ (z : List ℕ). f 0 (suc q ∷ z)) (append-assoc d (suc q ∷ []) r) ∙ opens (d ++ (suc q ∷ r))
+      ∙ (rw (pass-inside q d (suc q ∷ r) (class-avoids p (suc q) small n s), P .inside q (suc q) r, eqb-yes (suc q) (suc q) refl) (ap (later 1) (later-later (length d) 1 (f 0 r)) ∙ later-suc (length d + 1) (f 0 r)))
+      ∙ ap (λ (n : ℕ). later (suc n) (f 0 r)) (sym (length-append d (suc q ∷ []))) ∙ ap (λ (z : List ℕ). later (length z) (f 0 r)) (sym e)
+
+  clear-literal : (x : List ℕ) → SystemLiteral x → Clear (f 0) x
+  unfolding SystemLiteral
+  clear-literal x (inl l) = clear-quoted 33 (none-of "\"") x (l .second .left) (P .double) (omega arith) refl (l .second .first) (quoted-is "\"" "\"" l)
+  clear-literal x (inr l) = clear-quoted 38 (none-of "'") x (l .second .left) (P .single) (omega arith) refl (l .second .first) (quoted-is "'" "'" l)
+
+  pub clear-tame : {x : List ℕ} → Tame x → Clear (f 0) x
+  clear-tame (end e) = subst (Clear (f 0)) (sym e) clear-none
+  clear-tame (more u v e i s) = subst (Clear (f 0)) (sym e) (clear-append (f 0) u v (item i) (clear-tame s))
     where
-      item : (Ch (none-of "\"'<>[]") ∣ SystemLiteral) u → Clear f u
+      item : (Ch (none-of "\"'<>[]") ∣ SystemLiteral) u → Clear (f 0) u
       item (inl c) = clear-ch u c
       item (inr l) = clear-literal u l
 
--- of the six signs, none
-plain-no : (b : ℕ) → T (none-of "\"'<>[]" b) → (one-of "\"'" b ≡ false) × (eqb b 60 ≡ false) × (one-of "[" b ≡ false) × (one-of "]" b ≡ false)
-plain-no b t = go (eqb b 34) (eqb b 39) (eqb b 60) (eqb b 62) (eqb b 91) (eqb b 93) t
-  where
-    go : (a b c d e f : Bool) → T (not (a || (b || (c || (d || (e || (f || false))))))) → ((a || (b || false)) ≡ false) × (c ≡ false) × ((e || false) ≡ false) × ((f || false) ≡ false)
-    go true b c d e f t = absurd t
-    go false true c d e f t = absurd t
-    go false false true d e f t = absurd t
-    go false false false true e f t = absurd t
-    go false false false false true f t = absurd t
-    go false false false false false true t = absurd t
-    go false false false false false false t = (refl, refl, refl, refl)
-
--- the first part of the scan passes them
-open-inside : (q : ℕ) (x r : List ℕ) → avoids (suc q) x ≡ true → subset-open (suc q) (x ++ r) ≡ later (length x) (subset-open (suc q) r)
+pub open-quoting : Quoting subset-open
 unfolding subset-open
-open-inside q [] r h = later-zero (subset-open (suc q) r)
-open-inside q (b ∷ x) r h = go (eqb b (suc q)) h (open-inside q x r)
-  where
-    go : (t : Bool) → (not t && avoids (suc q) x) ≡ true → (avoids (suc q) x ≡ true → subset-open (suc q) (x ++ r) ≡ later (length x) (subset-open (suc q) r))
-        → later 1 (subset-open (pick t 0 (suc q)) (x ++ r)) ≡ later (suc (length x)) (subset-open (suc q) r)
-    go true e ih = absurd (true≢false (sym e))
-    go false e ih = ap (later 1) (ih e) ∙ later-suc (length x) (subset-open (suc q) r)
-
-literal-size : (n : ℕ) (p : Place) → later 1 (later n (later 1 p)) ≡ later (suc (n + 1)) p
-literal-size n p = ap (later 1) (later-later n 1 p) ∙ later-suc (n + 1) p
-
-open-literal : (q : ℕ) (x r : List ℕ) → one-of "[" (suc q) ≡ false → one-of "\"'" (suc q) ≡ true → avoids (suc q) x ≡ true → subset-open 0 (suc q ∷ (x ++ (suc q ∷ r))) ≡ later (suc (length x + 1)) (subset-open 0 r)
-unfolding subset-open
-open-literal q x r m n h = rw (m, n, open-inside q x (suc q ∷ r) h, eqb-yes (suc q) (suc q) refl) (literal-size (length x) (subset-open 0 r))
-
-pub open-passes : Passes (subset-open 0)
-unfolding subset-open
-open-passes = record {
-  plain = λ b r t. let (p, _, q, _) = plain-no b t in rw (q, p);
-  double = λ x r h. open-literal 33 x r refl refl h;
-  single = λ x r h. open-literal 38 x r refl refl h;
+open-quoting = record {
+  inside = λ q b w. refl;
+  double = λ w. refl;
+  single = λ w. refl;
+  plain = λ b w n. rw (none-sub (ascii "[") (ascii "\"'<>[]") tt b n, none-sub (ascii "\"'") (ascii "\"'<>[]") tt b n);
 }
 
--- so does the second
-end-inside : (q : ℕ) (x r : List ℕ) → avoids (suc q) x ≡ true → subset-end 0 (suc q) (x ++ r) ≡ later (length x) (subset-end 0 (suc q) r)
-unfolding subset-end
-end-inside q [] r h = later-zero (subset-end 0 (suc q) r)
-end-inside q (b ∷ x) r h = go (eqb b (suc q)) h (end-inside q x r)
-  where
-    go : (t : Bool) → (not t && avoids (suc q) x) ≡ true → (avoids (suc q) x ≡ true → subset-end 0 (suc q) (x ++ r) ≡ later (length x) (subset-end 0 (suc q) r))
-        → later 1 (subset-end 0 (pick t 0 (suc q)) (x ++ r)) ≡ later (suc (length x)) (subset-end 0 (suc q) r)
-    go true e ih = absurd (true≢false (sym e))
-    go false e ih = ap (later 1) (ih e) ∙ later-suc (length x) (subset-end 0 (suc q) r)
-
-end-literal : (q : ℕ) (x r : List ℕ) → one-of "]" (suc q) ≡ false → eqb (suc q) 60 ≡ false → one-of "\"'" (suc q) ≡ true → avoids (suc q) x ≡ true → subset-end 0 0 (suc q ∷ (x ++ (suc q ∷ r))) ≡ later (suc (length x + 1)) (subset-end 0 0 r)
+pub end-quoting : Quoting (subset-end 0)
 unfolding subset-end starts
-end-literal q x r m l n h = rw (m, l, n, end-inside q x (suc q ∷ r) h, eqb-yes (suc q) (suc q) refl) (literal-size (length x) (subset-end 0 0 r))
-
-pub end-passes : Passes (subset-end 0 0)
-unfolding subset-end starts
-end-passes = record {
-  plain = λ b r t. let (p, l, _, q) = plain-no b t in rw (q, l, p);
-  double = λ x r h. end-literal 33 x r refl refl refl h;
-  single = λ x r h. end-literal 38 x r refl refl refl h;
+end-quoting = record {
+  inside = λ q b w. refl;
+  double = λ w. refl;
+  single = λ w. refl;
+  plain = λ b w n. rw (none-sub (ascii "]") (ascii "\"'<>[]") tt b n, none-sub (ascii "\"'") (ascii "\"'<>[]") tt b n, not-less b n);
 }
+  where
+    not-less : (b : ℕ) → one-of "\"'<>[]" b ≡ false → eqb b 60 ≡ false
+    not-less b n = sym (or-false (eqb b 60)) ∙ none-sub (ascii "<") (ascii "\"'<>[]") tt b n
 
 -- a comment
 end-skip : (q : ℕ) (x r : List ℕ) → subset-end (length x) q (x ++ r) ≡ later (length x) (subset-end 0 q r)
@@ -245,19 +213,19 @@ bare-quoting (b ∷ w) h = go (eqb b 34) (eqb b 39) (eqb b 93) (starts (ascii "<
 -- the entries of a subset
 keyword-element : Clear (subset-end 0 0) (ascii "<!ELEMENT")
 unfolding subset-end starts
-keyword-element r = ap (later 1) (clear-tame end-passes (plain-bytes (ascii "!ELEMENT") refl) r) ∙ later-suc 8 (subset-end 0 0 r)
+keyword-element r = ap (later 1) (clear-tame end-quoting (plain-bytes (ascii "!ELEMENT") refl) r) ∙ later-suc 8 (subset-end 0 0 r)
 
 keyword-attlist : Clear (subset-end 0 0) (ascii "<!ATTLIST")
 unfolding subset-end starts
-keyword-attlist r = ap (later 1) (clear-tame end-passes (plain-bytes (ascii "!ATTLIST") refl) r) ∙ later-suc 8 (subset-end 0 0 r)
+keyword-attlist r = ap (later 1) (clear-tame end-quoting (plain-bytes (ascii "!ATTLIST") refl) r) ∙ later-suc 8 (subset-end 0 0 r)
 
 keyword-entity : Clear (subset-end 0 0) (ascii "<!ENTITY")
 unfolding subset-end starts
-keyword-entity r = ap (later 1) (clear-tame end-passes (plain-bytes (ascii "!ENTITY") refl) r) ∙ later-suc 7 (subset-end 0 0 r)
+keyword-entity r = ap (later 1) (clear-tame end-quoting (plain-bytes (ascii "!ENTITY") refl) r) ∙ later-suc 7 (subset-end 0 0 r)
 
 keyword-notation : Clear (subset-end 0 0) (ascii "<!NOTATION")
 unfolding subset-end starts
-keyword-notation r = ap (later 1) (clear-tame end-passes (plain-bytes (ascii "!NOTATION") refl) r) ∙ later-suc 9 (subset-end 0 0 r)
+keyword-notation r = ap (later 1) (clear-tame end-quoting (plain-bytes (ascii "!NOTATION") refl) r) ∙ later-suc 9 (subset-end 0 0 r)
 
 both-left : (a b : Bool) → T (a && b) → T a
 both-left true b t = tt
@@ -293,7 +261,7 @@ module _ (D : Dialect) (A : AsciiNames D) where
           (ap (paired 0) (append-assoc (ascii s) u (62 ∷ [])) ∙ pairs (u ++ (62 ∷ [])) ∙ del-paired 0 u (delimited-del d)))
 
       when-read : B u → Clear (subset-end 0 0) y
-      when-read b = subst (Clear (subset-end 0 0)) (sym whole) (clear-append (subset-end 0 0) (ascii s ++ u) (62 ∷ []) (clear-append (subset-end 0 0) (ascii s) u key (clear-tame end-passes (inner u b))) closing)
+      when-read b = subst (Clear (subset-end 0 0)) (sym whole) (clear-append (subset-end 0 0) (ascii s ++ u) (62 ∷ []) (clear-append (subset-end 0 0) (ascii s) u key (clear-tame end-quoting (inner u b))) closing)
         where
           closing : Clear (subset-end 0 0) (62 ∷ [])
           closing r = clear-quiet 0 [] r (unfold quiet starts in refl) (unfold paired in refl)
@@ -329,13 +297,13 @@ module _ (D : Dialect) (A : AsciiNames D) where
   clear-entry pe notation y l h = clear-declaration pe "<!NOTATION" keyword-notation (λ u. refl) (within-notation D A) y l h
   clear-entry pe instruction y l h = clear-instruction y l h
   clear-entry pe comment y l h = clear-comment y l
-  clear-entry pe reference y l h = clear-tame end-passes (within-reference y l)
+  clear-entry pe reference y l h = clear-tame end-quoting (within-reference y l)
 
   pub clear-filling : {pe : Bool} {w : List ℕ} (f : Filling D pe w) → T (Premise D quoting f) → Clear (subset-end 0 0) w
-  clear-filling (last b) h = clear-tame end-passes (within-s? _ b)
+  clear-filling (last b) h = clear-tame end-quoting (within-s? _ b)
   clear-filling (next {pe = pe} k s y z e b l f) h =
       subst (Clear (subset-end 0 0)) (sym e)
-      (clear-append (subset-end 0 0) s (y ++ z) (clear-tame end-passes (within-s? s b))
+      (clear-append (subset-end 0 0) s (y ++ z) (clear-tame end-quoting (within-s? s b))
       (clear-append (subset-end 0 0) y z (clear-entry pe k y l (both-left (premised D quoting pe k y) (Premise D quoting f) h)) (clear-filling f (both-right (premised D quoting pe k y) (Premise D quoting f) h))))
 
   -- what stands before the subset
@@ -343,4 +311,4 @@ module _ (D : Dialect) (A : AsciiNames D) where
   within-front = within-cat within-s? (within-cat (within-name D A) (within-cat (within-either (within-cat within-s within-external) within-none) within-s?))
 
   pub clear-front : (w : List ℕ) → Front D w → Clear (subset-open 0) w
-  clear-front w l = clear-tame open-passes (within-front w l)
+  clear-front w l = clear-tame open-quoting (within-front w l)

@@ -1,16 +1,15 @@
 -- Where a DOCTYPE's text ends: the rule passes its head as the quick scan does, and then its subset. Assumes nothing.
-use mathlib.Core.Bool.{Bool, true, false, _&&_, _||_, not, true≢false}
+use mathlib.Core.Bool.{true}
 use mathlib.Core.List.{List, [], _∷_, _++_, append-assoc}
 use mathlib.Core.Path.{_≡_, refl, sym, _∙_, ap}
 use Prim.Native.Nat.{ℕ, suc, _+_}
 use native.Mathlib.Omega.{arith}
-use lib.Dec.{T, eqb}
 use lib.ListN.{length, drop, length-append}
 use lib.Seq.{drop-append-seam, drop-drop}
 use Rattle.spec.specs.Basics.{pick}
 use Rattle.spec.specs.Grammar.Characters.{S?, space}
 use Rattle.spec.specs.Grammar.Division.{Front}
-use Rattle.spec.specs.Grammar.Languages.{ascii, one-of, none-of}
+use Rattle.spec.specs.Grammar.Languages.{ascii}
 use Rattle.spec.specs.Grammar.Names.{Dialect}
 use Rattle.spec.specs.Premise.{bare}
 use Rattle.spec.specs.Promises.{Covered, no-subset, has-subset}
@@ -19,53 +18,26 @@ use Rattle.spec.specs.Reading.Readers.{starts}
 use Rattle.spec.specs.Reading.Scan.{Place, at, later, subset-end}
 use Rattle.spec.proofs.Agreement.Holds.{first-sign}
 use Rattle.spec.proofs.Agreement.Words.{contains-at}
-use Rattle.spec.proofs.Base.Tests.{eqb-yes}
+use Rattle.spec.proofs.Base.Tests.{none-sub}
 use Rattle.spec.proofs.Characters.Bytes.{avoids, class-avoids}
-use Rattle.spec.proofs.Division.Clear.{later-suc, later-later, later-zero, Clear, Passes, clear-tame, clear-filling, within-front}
+use Rattle.spec.proofs.Division.Clear.{Clear, Quoting, clear-tame, clear-filling, within-front}
 use Rattle.spec.proofs.Division.Places.{parts-met}
 use Rattle.spec.proofs.Division.Scans.{found-after, weaken}
 use Rattle.spec.proofs.Wellformed.Names.{AsciiNames}
 
 -- the search for the head's end passes single signs and literals
-plain-no : (b : ℕ) → T (none-of "\"'<>[]" b) → (one-of "\"'" b ≡ false) × (one-of "[>" b ≡ false)
-plain-no b t = go (eqb b 34) (eqb b 39) (eqb b 60) (eqb b 62) (eqb b 91) (eqb b 93) t
-  where
-    go : (a b c d e f : Bool) → T (not (a || (b || (c || (d || (e || (f || false))))))) → ((a || (b || false)) ≡ false) × ((e || (d || false)) ≡ false)
-    go true b c d e f t = absurd t
-    go false true c d e f t = absurd t
-    go false false true d e f t = absurd t
-    go false false false true e f t = absurd t
-    go false false false false true f t = absurd t
-    go false false false false false f t = (refl, refl)
-
-inside : (q : ℕ) (x r : List ℕ) → avoids (suc q) x ≡ true → head-end (suc q) (x ++ r) ≡ later (length x) (head-end (suc q) r)
+head-quoting : Quoting head-end
 unfolding head-end
-inside q [] r h = later-zero (head-end (suc q) r)
-inside q (b ∷ x) r h = go (eqb b (suc q)) h (inside q x r)
-  where
-    go : (t : Bool) → (not t && avoids (suc q) x) ≡ true → (avoids (suc q) x ≡ true → head-end (suc q) (x ++ r) ≡ later (length x) (head-end (suc q) r))
-        → later 1 (head-end (pick t 0 (suc q)) (x ++ r)) ≡ later (suc (length x)) (head-end (suc q) r)
-    go true e ih = absurd (true≢false (sym e))
-    go false e ih = ap (later 1) (ih e) ∙ later-suc (length x) (head-end (suc q) r)
-
-literal-size : (n : ℕ) (p : Place) → later 1 (later n (later 1 p)) ≡ later (suc (n + 1)) p
-literal-size n p = ap (later 1) (later-later n 1 p) ∙ later-suc (n + 1) p
-
-literal : (q : ℕ) (x r : List ℕ) → one-of "[>" (suc q) ≡ false → one-of "\"'" (suc q) ≡ true → avoids (suc q) x ≡ true → head-end 0 (suc q ∷ (x ++ (suc q ∷ r))) ≡ later (suc (length x + 1)) (head-end 0 r)
-unfolding head-end
-literal q x r m n h = rw (m, n, inside q x (suc q ∷ r) h, eqb-yes (suc q) (suc q) refl) (literal-size (length x) (head-end 0 r))
-
-head-passes : Passes (head-end 0)
-unfolding head-end
-head-passes = record {
-  plain = λ b r t. let (p, q) = plain-no b t in rw (q, p);
-  double = λ x r h. literal 33 x r refl refl h;
-  single = λ x r h. literal 38 x r refl refl h;
+head-quoting = record {
+  inside = λ q b w. refl;
+  double = λ w. refl;
+  single = λ w. refl;
+  plain = λ b w n. rw (none-sub (ascii "[>") (ascii "\"'<>[]") tt b n, none-sub (ascii "\"'") (ascii "\"'<>[]") tt b n);
 }
 
 module _ (D : Dialect) (A : AsciiNames D) where
   clear-head : (w : List ℕ) → Front D w → Clear (head-end 0) w
-  clear-head w l = clear-tame head-passes (within-front D A w l)
+  clear-head w l = clear-tame head-quoting (within-front D A w l)
 
   -- without a subset
   front-ends : (t r : List ℕ) → Front D t → doctype-end (t ++ 62 ∷ r) ≡ at (length t)
