@@ -1,6 +1,6 @@
 -- Read bodies are tame: characters other than quotes, '<', '>' and brackets, and literals. So they are delimited, and no quick scan
 -- is misled by them. The law of each way to make a language. Assumes nothing.
-use mathlib.Core.Bool.{Bool, true, false, _&&_, _||_, not, true≢false}
+use mathlib.Core.Bool.{Bool, true, false, _&&_, true≢false}
 use mathlib.Core.List.{List, [], _∷_}
 use mathlib.Core.Path.{_≡_, refl, sym, _∙_, subst}
 use Prim.Native.Nat.{ℕ, zero, suc}
@@ -14,8 +14,8 @@ use Rattle.spec.specs.Grammar.Languages.{Lang, lit, ascii, Ch, _·_, _�
 use Rattle.spec.specs.Grammar.Literals.{SystemLiteral}
 use Rattle.spec.specs.Grammar.Names.{Dialect, Name}
 use Rattle.spec.proofs.Agreement.Algebra.{ε}
-use Rattle.spec.proofs.Base.Tests.{T→true, true→T, eqb-no, and-left, and-right, leb-true}
-use Rattle.spec.proofs.Characters.Text.{star-append, star-one, star-map, ascii-char}
+use Rattle.spec.proofs.Base.Tests.{T→true, true→T, eqb-no, and-left, and-right, leb-true, none-sub, not-true}
+use Rattle.spec.proofs.Characters.Text.{star-append, star-one, star-map, ascii-char, reclass}
 use Rattle.spec.proofs.Wellformed.Names.{AsciiNames}
 
 -- Languages whose texts have quotes in pairs, and no angle bracket and no square bracket outside them
@@ -30,15 +30,8 @@ pub tame-delimited : {u : List ℕ} → Tame u → Delimited u
 unfolding Delimited
 tame-delimited t = star-map item t
   where
-    weaker : (a b c d e f : Bool) → T (not (a || (b || (c || (d || (e || (f || false))))))) → T (not (a || (b || (d || false))))
-    weaker true b c d e f t = absurd t
-    weaker false true c d e f t = absurd t
-    weaker false false true d e f t = absurd t
-    weaker false false false true e f t = absurd t
-    weaker false false false false e f t = tt
-
     item : (w : List ℕ) → (Ch (none-of "\"'<>[]") ∣ SystemLiteral) w → (Ch (none-of "\"'>") ∣ SystemLiteral) w
-    item w (inl c) = inl (record { char = c .char; is-scalar = c .is-scalar; in-class = weaker (eqb (c .char) 34) (eqb (c .char) 39) (eqb (c .char) 60) (eqb (c .char) 62) (eqb (c .char) 91) (eqb (c .char) 93) (c .in-class); bytes = c .bytes })
+    item w (inl c) = inl (reclass c (rw (none-sub (ascii "\"'>") (ascii "\"'<>[]") tt (c .char) (not-true (one-of "\"'<>[]" (c .char)) (T→true (none-of "\"'<>[]" (c .char)) (c .in-class)))) tt))
     item w (inr l) = inr l
 
 pub within-cat : {L M : Lang} → Within L → Within M → Within (L · M)
@@ -59,7 +52,7 @@ within-star {L} a u s = go s
     go (more x y e l s) = subst Tame (sym e) (star-append (a x l) (go s))
 
 pub within-ch : (p : ℕ → Bool) → p 34 ≡ false → p 39 ≡ false → p 60 ≡ false → p 62 ≡ false → p 91 ≡ false → p 93 ≡ false → Within (Ch p)
-within-ch p a b d f g h u c = star-one (inl (record { char = c .char; is-scalar = c .is-scalar; in-class = go; bytes = c .bytes }))
+within-ch p a b d f g h u c = star-one (inl (reclass c go))
   where
     not-at : (m : ℕ) → p m ≡ false → eqb (c .char) m ≡ false
     not-at m e = eqb-no (c .char) m (λ f. true≢false (sym (T→true (p m) (subst (λ (k : ℕ). T (p k)) f (c .in-class))) ∙ e))

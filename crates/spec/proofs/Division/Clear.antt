@@ -22,9 +22,9 @@ use Rattle.spec.specs.Reading.Dtd.{has-pe-reference}
 use Rattle.spec.specs.Reading.Readers.{starts, contains, before}
 use Rattle.spec.specs.Reading.Scan.{Place, at, nowhere, later, subset-open, subset-end}
 use Rattle.spec.proofs.Agreement.Holds.{starts-cut}
-use Rattle.spec.proofs.Agreement.Tame.{Tame, Within, plain-bytes, within-cat, within-either, within-lit, within-none, within-s, within-s?, within-name, within-element}
+use Rattle.spec.proofs.Agreement.Tame.{Tame, Within, plain-bytes, within-cat, within-either, within-lit, within-none, within-s, within-s?, within-name, within-element, every-plain}
 use Rattle.spec.proofs.Agreement.Words.{contains-at}
-use Rattle.spec.proofs.Base.Tests.{T→true, decide, leb-true, leb-false, eqb-yes, eqb-no, and-right, none-sub, not-true}
+use Rattle.spec.proofs.Base.Tests.{T→true, decide, leb-true, leb-false, eqb-yes, eqb-no, and-right, none-sub, not-true, and-left, both-left, both-right}
 use Rattle.spec.proofs.Characters.Bytes.{all-high, high-head, high-tail, high-encode, avoids, class-avoids, avoids-head, avoids-tail}
 use Rattle.spec.proofs.Characters.Utf8.{encode-1}
 use Rattle.spec.proofs.Division.Parts.{Filling, last, next, Premise}
@@ -200,40 +200,17 @@ del-paired (suc q) (b ∷ u) h = del-paired (pick (eqb b (suc q)) 0 (suc q)) u h
 pub bare-quoting : (w : List ℕ) → bare w ≡ true → (paired 0 w ≡ true) × (quiet 0 w ≡ true)
 unfolding bare paired quiet
 bare-quoting [] h = (refl, refl)
-bare-quoting (b ∷ w) h = go (eqb b 34) (eqb b 39) (eqb b 93) (starts (ascii "<!--") (b ∷ w)) h (bare-quoting w)
-  where
-    go : (a c d t : Bool) → ((not (a || (c || (d || false))) && not t) && bare w) ≡ true → (bare w ≡ true → (paired 0 w ≡ true) × (quiet 0 w ≡ true))
-        → (paired (pick (a || (c || false)) b 0) w ≡ true) × (((not (d || false) && not t) && quiet (pick (a || (c || false)) b 0) w) ≡ true)
-    go true c d t e ih = absurd (true≢false (sym e))
-    go false true d t e ih = absurd (true≢false (sym e))
-    go false false true t e ih = absurd (true≢false (sym e))
-    go false false false true e ih = absurd (true≢false (sym e))
-    go false false false false e ih = ih e
+bare-quoting (b ∷ w) h =
+    let here : (none-of "\"']" b && not (starts (ascii "<!--") (b ∷ w))) ≡ true = and-left (none-of "\"']" b && not (starts (ascii "<!--") (b ∷ w))) (bare w) h in
+    let n : one-of "\"']" b ≡ false = not-true (one-of "\"']" b) (and-left (none-of "\"']" b) (not (starts (ascii "<!--") (b ∷ w))) here) in
+    let (p, q) = bare-quoting w (and-right (none-of "\"']" b && not (starts (ascii "<!--") (b ∷ w))) (bare w) h) in
+    rw (none-sub (ascii "\"'") (ascii "\"']") tt b n, none-sub (ascii "]") (ascii "\"']") tt b n, and-right (none-of "\"']" b) (not (starts (ascii "<!--") (b ∷ w))) here) (p, q)
 
--- the entries of a subset
-keyword-element : Clear (subset-end 0 0) (ascii "<!ELEMENT")
+-- the entries of a subset: what a declaration begins with
+clear-keyword : (b : ℕ) (x : List ℕ) → eqb b 45 ≡ false → T (every-plain (b ∷ x)) → Clear (subset-end 0 0) (60 ∷ 33 ∷ b ∷ x)
 unfolding subset-end starts
-keyword-element r = ap (later 1) (clear-tame end-quoting (plain-bytes (ascii "!ELEMENT") refl) r) ∙ later-suc 8 (subset-end 0 0 r)
-
-keyword-attlist : Clear (subset-end 0 0) (ascii "<!ATTLIST")
-unfolding subset-end starts
-keyword-attlist r = ap (later 1) (clear-tame end-quoting (plain-bytes (ascii "!ATTLIST") refl) r) ∙ later-suc 8 (subset-end 0 0 r)
-
-keyword-entity : Clear (subset-end 0 0) (ascii "<!ENTITY")
-unfolding subset-end starts
-keyword-entity r = ap (later 1) (clear-tame end-quoting (plain-bytes (ascii "!ENTITY") refl) r) ∙ later-suc 7 (subset-end 0 0 r)
-
-keyword-notation : Clear (subset-end 0 0) (ascii "<!NOTATION")
-unfolding subset-end starts
-keyword-notation r = ap (later 1) (clear-tame end-quoting (plain-bytes (ascii "!NOTATION") refl) r) ∙ later-suc 9 (subset-end 0 0 r)
-
-both-left : (a b : Bool) → T (a && b) → T a
-both-left true b t = tt
-both-left false b t = absurd t
-
-both-right : (a b : Bool) → T (a && b) → T b
-both-right true b t = t
-both-right false b t = absurd t
+clear-keyword b x n h r =
+    rw n (ap (later 1) (clear-tame end-quoting (plain-bytes (33 ∷ b ∷ x) (T→true (every-plain (33 ∷ b ∷ x)) h)) r) ∙ later-suc (length (33 ∷ b ∷ x)) (subset-end 0 0 r))
 
 module _ (D : Dialect) (A : AsciiNames D) where
   -- a declaration, read or unread
@@ -291,10 +268,10 @@ module _ (D : Dialect) (A : AsciiNames D) where
 
   clear-entry : (pe : Bool) (k : Kind) (y : List ℕ) → entry-of D pe k y → T (premised D quoting pe k y) → Clear (subset-end 0 0) y
   unfolding paired
-  clear-entry pe element y l h = clear-declaration pe "<!ELEMENT" keyword-element (λ u. refl) (within-element D A) y l h
-  clear-entry pe attlist y l h = clear-declaration pe "<!ATTLIST" keyword-attlist (λ u. refl) (within-attlist D A) y l h
-  clear-entry pe entity y l h = clear-declaration pe "<!ENTITY" keyword-entity (λ u. refl) (within-entity D A) y l h
-  clear-entry pe notation y l h = clear-declaration pe "<!NOTATION" keyword-notation (λ u. refl) (within-notation D A) y l h
+  clear-entry pe element y l h = clear-declaration pe "<!ELEMENT" (clear-keyword 69 (ascii "LEMENT") refl tt) (λ u. refl) (within-element D A) y l h
+  clear-entry pe attlist y l h = clear-declaration pe "<!ATTLIST" (clear-keyword 65 (ascii "TTLIST") refl tt) (λ u. refl) (within-attlist D A) y l h
+  clear-entry pe entity y l h = clear-declaration pe "<!ENTITY" (clear-keyword 69 (ascii "NTITY") refl tt) (λ u. refl) (within-entity D A) y l h
+  clear-entry pe notation y l h = clear-declaration pe "<!NOTATION" (clear-keyword 78 (ascii "OTATION") refl tt) (λ u. refl) (within-notation D A) y l h
   clear-entry pe instruction y l h = clear-instruction y l h
   clear-entry pe comment y l h = clear-comment y l
   clear-entry pe reference y l h = clear-tame end-quoting (within-reference y l)

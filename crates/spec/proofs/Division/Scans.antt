@@ -1,5 +1,5 @@
 -- Demand 3's promise on cut texts. Assumes nothing.
-use mathlib.Core.Bool.{Bool, true, false, _&&_}
+use mathlib.Core.Bool.{Bool, true, false}
 use mathlib.Core.List.{List, [], _∷_, _++_, append-assoc, append-nil}
 use mathlib.Core.Logic.{_⊎_, inl, inr}
 use mathlib.Core.Path.{_≡_, refl, sym, _∙_, ap}
@@ -11,13 +11,13 @@ use lib.Seq.{take-append-add, drop-at}
 use Rattle.spec.specs.Basics.{pick}
 use Rattle.spec.specs.Grammar.Division.{Front, Kind, element, attlist, entity, notation, instruction, comment, reference}
 use Rattle.spec.specs.Grammar.Names.{Dialect}
-use Rattle.spec.specs.Premise.{bare, premised, promised}
+use Rattle.spec.specs.Premise.{bare, premised, promised, quiet}
 use Rattle.spec.specs.Reading.Scan.{Place, at, nowhere, later, subset-open, subset-end, not-opened, not-closed, closed, scan, scan-from, scan-after}
-use Rattle.spec.proofs.Base.Tests.{T→true, true→T, decide, leb-yes, leb-no, leb-true, leb-false}
+use Rattle.spec.proofs.Base.Tests.{T→true, true→T, decide, leb-yes, leb-no, leb-true, leb-false, both, both-left, both-right}
 use Rattle.spec.proofs.Division.Clear.{Clear, clear-front, clear-filling, bare-quoting}
 use Rattle.spec.proofs.Division.FrontParts.{cut-off, open-cut, end-cut}
 use Rattle.spec.proofs.Division.Parts.{Filling, last, next, Premise, Cuts-parts}
-use Rattle.spec.proofs.Division.Quoting.{quoting}
+use Rattle.spec.proofs.Division.Quoting.{quoting, paired}
 use Rattle.spec.proofs.Wellformed.Names.{AsciiNames}
 
 -- where the scan passes a part, it finds what stands next
@@ -83,18 +83,14 @@ module _ (D : Dialect) (A : AsciiNames D) where
   weaker pe attlist y t = t
   weaker pe entity y t = t
   weaker pe notation y t = t
-  weaker pe instruction y t = let (a, b) = bare-quoting y (T→true (bare y) t) in true→T (quoting y) (λ i. a i && b i)
+  weaker pe instruction y t = let (a, b) = bare-quoting y (T→true (bare y) t) in both (paired 0 y) (quiet 0 y) (true→T (paired 0 y) a) (true→T (quiet 0 y) b)
   weaker pe comment y t = t
   weaker pe reference y t = t
 
   pub weaken : {pe : Bool} {w : List ℕ} (f : Filling D pe w) → T (Premise D bare f) → T (Premise D quoting f)
   weaken (last b) t = tt
-  weaken (next {pe = pe} k s y z e b l f) t = go (premised D bare pe k y) (premised D quoting pe k y) (weaker pe k y) (weaken f) t
-    where
-      go : (a b : Bool) → (T a → T b) → (T (Premise D bare f) → T (Premise D quoting f)) → T (a && Premise D bare f) → T (b && Premise D quoting f)
-      go false b g ih t = absurd t
-      go true true g ih t = ih t
-      go true false g ih t = absurd (g tt)
+  weaken (next {pe = pe} k s y z e b l f) t =
+      both (premised D quoting pe k y) (Premise D quoting f) (weaker pe k y (both-left (premised D bare pe k y) (Premise D bare f) t)) (weaken f (both-right (premised D bare pe k y) (Premise D bare f) t))
 
   pub cuts-parts : Cuts-parts D bare
   cuts-parts w d h cut = cuts-parts-quoting w d (weaken (d .fills) h) cut

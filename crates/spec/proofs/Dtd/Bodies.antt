@@ -24,8 +24,8 @@ use Rattle.spec.proofs.Agreement.Chars.{begins-ch}
 use Rattle.spec.proofs.Agreement.Reads.{Took, Reads, Next}
 use Rattle.spec.proofs.Agreement.Whole.{Whole}
 use Rattle.spec.proofs.Base.Results.{err-ok, ok-inj, on-ok-ok, past-ok}
-use Rattle.spec.proofs.Base.Tests.{true→T, decide, leb-true, leb-false, eqb-yes, eqb-true, eqb-no, or-cases, and-left, and-right}
-use Rattle.spec.proofs.Characters.Bytes.{all-high, high-head, high-tail, high-encode, avoids, avoids-append, avoids-high, class-avoids, avoids-class, text-front, not-one}
+use Rattle.spec.proofs.Base.Tests.{true→T, decide, leb-true, leb-false, eqb-yes, eqb-true, eqb-no, or-cases, and-left, and-right, one-sign, two-signs, none-sub, not-true, T→true, or-false-left, or-false-right}
+use Rattle.spec.proofs.Characters.Bytes.{all-high, high-head, high-tail, high-encode, avoids, avoids-append, avoids-high, class-avoids, avoids-class, text-front, not-one, avoids-head, avoids-tail}
 use Rattle.spec.proofs.Characters.Text.{text-rest, ascii-text, star-one}
 use Rattle.spec.proofs.Characters.Utf8.{encode-1, decode-read, Read}
 
@@ -56,11 +56,7 @@ body-ended q k [] e = absurd (err-ok unterminated k e)
 body-ended zero k (b ∷ w) e = go (one-of ">" b) refl e (λ p j. body-ended p j w)
   where
     go : (t : Bool) → one-of ">" b ≡ t → pick t (ok 0) (past 1 (take-decl-body (pick (one-of "\"'" b) b 0) w)) ≡ ok k → ((p j : ℕ) → take-decl-body p w ≡ ok j → Ended p j w) → Ended zero k (b ∷ w)
-    go true f g ih = record { body = []; rest = w; split = ap (λ (x : ℕ). x ∷ w) (is-gt (or-cases (eqb b 62) false f)); size = ok-inj 0 k g; good = refl }
-      where
-        is-gt : (eqb b 62 ≡ true) ⊎ (false ≡ true) → b ≡ 62
-        is-gt (Logic.inl x) = eqb-true b 62 x
-        is-gt (Logic.inr x) = absurd (true≢false (sym x))
+    go true f g ih = record { body = []; rest = w; split = ap (λ (x : ℕ). x ∷ w) (one-sign 62 b f); size = ok-inj 0 k g; good = refl }
     go false f g ih = one-more zero (pick (one-of "\"'" b) b 0) k b w (λ u. ap (λ (t : Bool). not t && del (pick (one-of "\"'" b) b 0) u) f) (ih (pick (one-of "\"'" b) b 0)) g
 body-ended (suc q) k (b ∷ w) e = one-more (suc q) (pick (eqb b (suc q)) 0 (suc q)) k b w (λ u. refl) (λ j. body-ended (pick (eqb b (suc q)) 0 (suc q)) j w) e
 
@@ -97,11 +93,7 @@ del-high (suc q) (b ∷ x) y l h =
 del-inside : (q : ℕ) (x y : List ℕ) → avoids (suc q) x ≡ true → del (suc q) (x ++ y) ≡ del (suc q) y
 unfolding del
 del-inside q [] y h = refl
-del-inside q (b ∷ x) y h = go (eqb b (suc q)) h (λ e. del-inside q x y e)
-  where
-    go : (t : Bool) → (not t && avoids (suc q) x) ≡ true → (avoids (suc q) x ≡ true → del (suc q) (x ++ y) ≡ del (suc q) y) → del (pick t 0 (suc q)) (x ++ y) ≡ del (suc q) y
-    go true e ih = absurd (true≢false (sym e))
-    go false e ih = ih e
+del-inside q (b ∷ x) y h = ap (λ (t : Bool). del (pick t 0 (suc q)) (x ++ y)) (avoids-head (suc q) b x h) ∙ del-inside q x y (avoids-tail (suc q) b x h)
 
 -- a delimited body has such bytes
 del-literal : (q : ℕ) (p : ℕ → Bool) (x y : List ℕ) → suc q < 128 → p (suc q) ≡ false → one-of ">" (suc q) ≡ false → one-of "\"'" (suc q) ≡ true
@@ -109,18 +101,14 @@ del-literal : (q : ℕ) (p : ℕ → Bool) (x y : List ℕ) → suc q < 128 → 
 unfolding del
 del-literal q p x y l n gt qt s = rw (gt, qt, del-inside q x (suc q ∷ y) (class-avoids p (suc q) l n s), eqb-yes (suc q) (suc q) refl)
 
-three-no : (a b c : Bool) → T (not (a || (b || (c || false)))) → ((c || false) ≡ false) × ((a || (b || false)) ≡ false)
-three-no true b c t = absurd t
-three-no false true c t = absurd t
-three-no false false true t = absurd t
-three-no false false false t = (refl, refl)
-
 del-item : (x y : List ℕ) → (Ch (none-of "\"'>") ∣ SystemLiteral) x → del 0 (x ++ y) ≡ del 0 y
 unfolding SystemLiteral del
 del-item x y (inl c) = by-size (decide (ltb (c .char) 128))
   where
     small : del 0 ((c .char ∷ []) ++ y) ≡ del 0 y
-    small = let (e, f) = three-no (eqb (c .char) 34) (eqb (c .char) 39) (eqb (c .char) 62) (c .in-class) in rw (e, f)
+    small =
+        let n : one-of "\"'>" (c .char) ≡ false = not-true (one-of "\"'>" (c .char)) (T→true (none-of "\"'>" (c .char)) (c .in-class)) in
+        rw (none-sub (ascii ">") (ascii "\"'>") tt (c .char) n, none-sub (ascii "\"'") (ascii "\"'>") tt (c .char) n)
 
     by-size : (ltb (c .char) 128 ≡ true) ⊎ (ltb (c .char) 128 ≡ false) → del 0 (x ++ y) ≡ del 0 y
     by-size (Logic.inl t) = ap (λ (z : List ℕ). del 0 (z ++ y)) (c .bytes ∙ encode-1 (c .char) (leb-true (suc (c .char)) 128 t)) ∙ small
@@ -157,17 +145,6 @@ abbrev Delimits : ℕ → List ℕ → Type 0
 Delimits zero u = Star (Ch (none-of "\"'>") ∣ SystemLiteral) u
 Delimits (suc q) u = Open (suc q) u
 
-quote-of : (b : ℕ) → one-of "\"'" b ≡ true → (b ≡ 34) ⊎ (b ≡ 39)
-quote-of b e = go (or-cases (eqb b 34) (eqb b 39 || false) e)
-  where
-    og : (eqb b 39 ≡ true) ⊎ (false ≡ true) → (b ≡ 34) ⊎ (b ≡ 39)
-    og (Logic.inl x) = Logic.inr (eqb-true b 39 x)
-    og (Logic.inr x) = absurd (true≢false (sym x))
-
-    go : (eqb b 34 ≡ true) ⊎ ((eqb b 39 || false) ≡ true) → (b ≡ 34) ⊎ (b ≡ 39)
-    go (Logic.inl x) = Logic.inl (eqb-true b 34 x)
-    go (Logic.inr x) = og (or-cases (eqb b 39) false x)
-
 -- a quote, its inside and the quote again
 literal : (b : ℕ) (u : List ℕ) → (b ≡ 34) ⊎ (b ≡ 39) → Open b u → Star (Ch (none-of "\"'>") ∣ SystemLiteral) (b ∷ u)
 unfolding SystemLiteral
@@ -193,13 +170,8 @@ literal b u (Logic.inr e) o =
     (o .body)
 
 plain-char : (c : ℕ) → one-of ">" c ≡ false → one-of "\"'" c ≡ false → T (none-of "\"'>" c)
-plain-char c e f = go (eqb c 34) (eqb c 39) (eqb c 62) e f
-  where
-    go : (a b d : Bool) → (d || false) ≡ false → (a || (b || false)) ≡ false → T (not (a || (b || (d || false))))
-    go true b d e f = absurd (true≢false f)
-    go false true d e f = absurd (true≢false f)
-    go false false true e f = absurd (true≢false e)
-    go false false false e f = tt
+plain-char c e f =
+    rw (or-false-left (eqb c 34) (one-of "'" c) f, or-false-left (eqb c 39) false (or-false-right (eqb c 34) (one-of "'" c) f), or-false-left (eqb c 62) false e) tt
 
 del-delimits : (q : ℕ) {u : List ℕ} → q < 128 → Star (Ch any) u → del q u ≡ true → Delimits q u
 unfolding del
@@ -238,7 +210,7 @@ del-delimits q {u} l (more x y e c s) h = by-size (decide (ltb (c .char) 128)) (
     small t zero k d ih = by-gt (one-of ">" b) refl d
       where
         by-quote : one-of ">" b ≡ false → (v : Bool) → one-of "\"'" b ≡ v → del (pick v b 0) y ≡ true → Delimits 0 u
-        by-quote n true f g = subst (Star (Ch (none-of "\"'>") ∣ SystemLiteral)) (sym (u-is t)) (literal b y (quote-of b f) (opened b (quote-of b f) g))
+        by-quote n true f g = subst (Star (Ch (none-of "\"'>") ∣ SystemLiteral)) (sym (u-is t)) (literal b y (two-signs 34 39 b f) (opened b (two-signs 34 39 b f) g))
           where
             opened : (a : ℕ) → (a ≡ 34) ⊎ (a ≡ 39) → del a y ≡ true → Open a y
             opened a (Logic.inl z) g = subst (λ (m : ℕ). Open m y) (sym z) (ih 34 (omega arith) (ap (λ (m : ℕ). del m y) (sym z) ∙ g))
@@ -268,16 +240,9 @@ module _ (D : Dialect) where
   pe-found [] e = absurd (true≢false (sym e))
   pe-found (b ∷ u) e = go (or-cases (one-of "%" b && begins (D .start) u) (has-pe-reference D u) e) (pe-found u)
     where
-      percent : (eqb b 37 || false) ≡ true → b ≡ 37
-      percent f = og (or-cases (eqb b 37) false f)
-        where
-          og : (eqb b 37 ≡ true) ⊎ (false ≡ true) → b ≡ 37
-          og (Logic.inl x) = eqb-true b 37 x
-          og (Logic.inr x) = absurd (true≢false (sym x))
-
       go : ((one-of "%" b && begins (D .start) u) ≡ true) ⊎ (has-pe-reference D u ≡ true) → (has-pe-reference D u ≡ true → (x y : List ℕ) × (u ≡ x ++ 37 ∷ y) × (begins (D .start) y ≡ true))
           → (x y : List ℕ) × (b ∷ u ≡ x ++ 37 ∷ y) × (begins (D .start) y ≡ true)
-      go (Logic.inl f) ih = ([], u, ap (λ (z : ℕ). z ∷ u) (percent (and-left (one-of "%" b) (begins (D .start) u) f)), and-right (one-of "%" b) (begins (D .start) u) f)
+      go (Logic.inl f) ih = ([], u, ap (λ (z : ℕ). z ∷ u) (one-sign 37 b (and-left (one-of "%" b) (begins (D .start) u) f)), and-right (one-of "%" b) (begins (D .start) u) f)
       go (Logic.inr f) ih = let (x, y, g, h) = ih f in (b ∷ x, y, ap (λ (z : List ℕ). b ∷ z) g, h)
 
   pe-at : (x y : List ℕ) → begins (D .start) y ≡ true → has-pe-reference D (x ++ 37 ∷ y) ≡ true

@@ -25,7 +25,7 @@ use Rattle.spec.proofs.Agreement.Signs.{Class, by-signs, sub-any, sub-r
 use Rattle.spec.proofs.Agreement.UpTo.{up-to-reads}
 use Rattle.spec.proofs.Agreement.Words.{wd}
 use Rattle.spec.proofs.Base.Results.{else-refused}
-use Rattle.spec.proofs.Base.Tests.{T→true, true→T, leb-yes, eqb-true, eqb-yes, and-left, or-cases, within-hi}
+use Rattle.spec.proofs.Base.Tests.{T→true, true→T, leb-yes, eqb-true, eqb-yes, or-cases, within-hi, both-left}
 use Rattle.spec.proofs.Characters.Bytes.{avoids, class-avoids, avoids-class, not-one}
 use Rattle.spec.proofs.Characters.Text.{star-map}
 
@@ -96,7 +96,7 @@ unfolding PubidLiteral pubid-char
 pubid-literal-reads =
     quoted-reads check-pubid (Star (Ch pubid-char)) (Star (Ch (λ c. pubid-char c && none-of "'" c)))
     (pubid-inside 34 pubid-char (omega arith) refl (λ c t. t) (λ c t f. t))
-    (pubid-inside 39 (λ c. pubid-char c && none-of "'" c) (omega arith) refl (λ c t. true→T (pubid-char c) (and-left (pubid-char c) (none-of "'" c) (T→true (pubid-char c && none-of "'" c) t)))
+    (pubid-inside 39 (λ c. pubid-char c && none-of "'" c) (omega arith) refl (λ c t. both-left (pubid-char c) (none-of "'" c) t)
     (λ c t f. rw (T→true (pubid-char c) t) (not-one 39 c f)))
 
 -- ExternalID

@@ -22,7 +22,7 @@ use Rattle.spec.proofs.Agreement.Texts.{texts-star, texts-ch, texts-ref
 use Rattle.spec.proofs.Base.Loops.{through-end, through-none}
 use Rattle.spec.proofs.Base.Results.{err-ok, past-ok, unless-refuses}
 use Rattle.spec.proofs.Base.Somes.{some-legal, some-text, some-attr}
-use Rattle.spec.proofs.Base.Tests.{T→true, true→T, eqb-true, and-left, not-false}
+use Rattle.spec.proofs.Base.Tests.{T→true, true→T, eqb-true, and-left, not-false, both, both-left}
 use Rattle.spec.proofs.Characters.Bytes.{avoids, class-avoids, not-one}
 use Rattle.spec.proofs.Characters.LegalBytes.{tail-legal, legal-here}
 use Rattle.spec.proofs.Characters.Text.{star-one, reclass}
@@ -152,10 +152,6 @@ less-is : (u v : List ℕ) (c : Ch any u) → c .char ≡ 60 → starts (ascii "
 unfolding starts
 less-is u v c e = ap (λ (z : List ℕ). starts (ascii "<") (z ++ v)) (c .bytes ∙ ap encode e ∙ encode-1 60 (omega arith))
 
-both : (a b : Bool) → T a → T b → T (a && b)
-both true b s t = t
-both false b s t = s
-
 attr-walk : Step attr-step unless Free Free
 unfolding attr-step on choose
 attr-walk = record {
@@ -163,7 +159,7 @@ attr-walk = record {
   rest = nothing-asked;
   at-tail = λ b w h. rw (tail-starts 60 [] (omega arith) b w h, tail-starts 38 (ascii "#") (omega arith) b w h) (legal-tail b w h);
   at-ref = λ w e. rw (less-ref w e, e);
-  takes = λ u v c n b. rw (less-not u v c, n) (legal-takes u v (reclass c (true→T (xml-char (c .char)) (and-left (xml-char (c .char)) (none-of "<" (c .char)) (T→true (unless (c .char)) (c .in-class))))));
+  takes = λ u v c n b. rw (less-not u v c, n) (legal-takes u v (reclass c (both-left (xml-char (c .char)) (none-of "<" (c .char)) (c .in-class))));
   legal = λ u v k c n q e.
       let (f, g) = unless-refuses less-than (starts (ascii "<") (u ++ v)) (on "&#" char-ref legal-byte) (u ++ v) k e in
       (reclass c (both (xml-char (c .char)) (none-of "<" (c .char)) (legal-char u v k c (rw n at g)) (not-one 60 (c .char) (λ z. true≢false (sym (less-is u v c z) ∙ f)))), tt);
