@@ -5,6 +5,7 @@ use Prim.Native.Nat.{ℕ}
 use Prim.Native.String.{String}
 use Rattle.spec.specs.Grammar.Languages.{Lang, lit, ascii, _·_, _∣_, inl, inr, Star, end, more, Plus}
 use Rattle.spec.proofs.Agreement.Reads.{_≅_}
+use Rattle.spec.proofs.Characters.Text.{cat-before, plus-star}
 
 -- the empty text
 abbrev pub ε : Lang
@@ -85,7 +86,7 @@ pub plus-or-none : {L : Lang} → (Plus L ∣ ε) ≅ Star L
 plus-or-none {L} = record { to = go; from = og }
   where
     go : (w : List ℕ) → (Plus L ∣ ε) w → Star L w
-    go w (inl c) = more (c .left) (c .right) (c .split) (c .first) (c .second)
+    go w (inl c) = plus-star c
     go w (inr e) = end e
 
     og : (w : List ℕ) → Star L w → (Plus L ∣ ε) w
@@ -120,7 +121,7 @@ module _ {A X : Lang} where
         left = (u ++ c .left) ++ r .left;
         right = r .right;
         split =
-            ap (λ (z : List ℕ). u ++ z) (e ∙ ap (λ (z : List ℕ). z ++ v) (c .split) ∙ append-assoc (c .left) (c .right) v ∙ ap (λ (z : List ℕ). c .left ++ z) (r .split))
+            ap (λ (z : List ℕ). u ++ z) (e ∙ cat-before c v ∙ ap (λ (z : List ℕ). c .left ++ z) (r .split))
             ∙ sym (append-assoc u (c .left) (r .left ++ r .right)) ∙ sym (append-assoc (u ++ c .left) (r .left) (r .right));
         first = more (u ++ c .left) (r .left) refl (record { left = u; right = c .left; split = refl; first = a; second = c .first }) (r .first);
         second = r .second;

@@ -12,6 +12,7 @@ use Rattle.spec.specs.Reading.Readers.{ok, Reader, nothing, while-fuel, 
 use Rattle.spec.proofs.Agreement.Reads.{Sound, Complete, Leads, Reads, Next, took-as, took-none, sound-seq}
 use Rattle.spec.proofs.Agreement.Signs.{kind, Class, Sub, sub-at, _∪_, in-left, in-right}
 use Rattle.spec.proofs.Base.Results.{ok-inj, by-reader}
+use Rattle.spec.proofs.Characters.Text.{plus-star}
 
 -- again and again
 module _ (t : List ℕ → Bool) (r : Reader) (L : Lang) where
@@ -21,7 +22,7 @@ module _ (t : List ℕ → Bool) (r : Reader) (L : Lang) where
   sound-while sr (suc d) w k tw e =
       let ih : Sound (while-fuel d t r) (Star L) = sound-while sr d in
       by-reader (t w) (r >> while-fuel d t r) nothing w (ok k)
-      (λ _ f. took-as (λ u c. more (c .left) (c .right) (c .split) (c .first) (c .second)) refl (sound-seq r (while-fuel d t r) L (Star L) sr ih w k tw f))
+      (λ _ f. took-as (λ u c. plus-star c) refl (sound-seq r (while-fuel d t r) L (Star L) sr ih w k tw f))
       (λ _ f. took-none (ok-inj 0 k f) tw (end refl)) e
 
   leads-star : (F : Lang) (p q f : Class) → ((v : List ℕ) → F v → T (p (kind v))) → Leads L (Next q) f → Sub (f ∪ p) q → {u : List ℕ} (v : List ℕ) → Star L u → F v → T ((f ∪ p) (kind (u ++ v)))

@@ -12,7 +12,7 @@ use lib.ListN.{length, drop, length-append, drop-of-length-le}
 use lib.Seq.{drop-append-seam}
 use Rattle.spec.specs.Basics.{pick}
 use Rattle.spec.specs.Grammar.Characters.{Text, space, S, S?}
-use Rattle.spec.specs.Grammar.Languages.{Lang, ascii, Ch, inl, inr, Star, end, more, Plus, any, among}
+use Rattle.spec.specs.Grammar.Languages.{Lang, ascii, Ch, inl, inr, Star, end, more, Plus, any, among, _·_}
 use Rattle.spec.specs.Reading.Dtd.{skip-s, require-s}
 use Rattle.spec.specs.Reading.Readers.{ok, err, Reader, run, required, char}
 use Rattle.spec.specs.Reading.Refusals.{Refusal, no-space}
@@ -21,7 +21,7 @@ use Rattle.spec.proofs.Agreement.Reads.{Took, Reads, Next, next, Leads,
 use Rattle.spec.proofs.Agreement.Signs.{kind, kind-ascii, Class, Sub, sub-at, _∪_, in-left, in-right}
 use Rattle.spec.proofs.Base.Results.{ok-inj, on-ok-ok, unless-refused}
 use Rattle.spec.proofs.Base.Tests.{T→true, true→T, decide, leb-yes, leb-true, eqb-true, eqb-no, and-left, and-right, or-cases}
-use Rattle.spec.proofs.Characters.Text.{ascii-char, text-rest, star-one, all-ascii}
+use Rattle.spec.proofs.Characters.Text.{ascii-char, text-rest, star-one, all-ascii, cat-size, plus-star, cat-before}
 use Rattle.spec.proofs.Characters.Utf8.{encode-1}
 
 -- a sign among ASCII signs is ASCII
@@ -126,9 +126,9 @@ at-least-one {r} {L} {F} {g} n f some-L lead a = record { sound = sound-by; comp
 
     complete-by : (u v : List ℕ) → Plus L u → F v → required n r (u ++ v) ≡ ok (length u)
     complete-by u v l t =
-        let b : r (u ++ v) ≡ ok (length u) = a .complete u v (more (l .left) (l .right) (l .split) (l .first) (l .second)) t in
+        let b : r (u ++ v) ≡ ok (length u) = a .complete u v (plus-star l) t in
         let z : 0 < length (l .left) = some-L (l .left) (l .first) in
-        let c : length u ≡ length (l .left) + length (l .right) = ap length (l .split) ∙ length-append (l .left) (l .right) in
+        let c : length u ≡ length (l .left) + length (l .right) = cat-size l in
         rw (b, eqb-no (length u) 0 (λ o. omega arith))
 
     leads-by : Leads (Plus L) F f
@@ -158,3 +158,33 @@ need q h =
 pub past-space : {q : Class} → Sub q not-space → (x y : List ℕ) → S? x → T (q (kind y)) → drop (run space (x ++ y)) (x ++ y) ≡ y
 unfolding S?
 past-space {q} h x y s t = rw (run-complete space space-ascii q h y s t) (drop-append-seam x y)
+
+-- white space, and then what is none: how much of it, what is left after it, and that there is some
+pub spaced : {K F : Lang} (g : Class) → Sub g not-space → Leads K F g → (u v : List ℕ) (l : (S · K) u) → F v
+    → (run space (u ++ v) ≡ length (l .left)) × (drop (length (l .left)) (u ++ v) ≡ l .right ++ v) × (0 < length (l .left))
+unfolding S
+spaced g h ll u v l t =
+    let p : Plus (Ch space) (l .left) = l .first in
+    let m : 0 < length (p .left) = ch-some (p .left) (p .first) in (
+      ap (run space) (cat-before l v) ∙ run-complete space space-ascii g h (l .right ++ v) (plus-star p) (ll (l .right) v (l .second) t),
+      ap (drop (length (l .left))) (cat-before l v) ∙ drop-append-seam (l .left) (l .right ++ v),
+      omega (arith, cat-size p),
+    )
+
+-- white space that may be none: all of a text, some of it, none at all, and as one text of a language that has it
+pub blank-run : (v : List ℕ) → S? v → run space v ≡ length v
+unfolding S?
+blank-run v s = run-whole space space-ascii refl s
+
+pub s-s? : (x : List ℕ) → S x → S? x
+unfolding S S?
+s-s? x s = plus-star s
+
+pub no-spaces : S? []
+unfolding S?
+no-spaces = end refl
+
+pub spaces : {L : Lang} {x : List ℕ} → ((w : List ℕ) → S w → L w) → S? x → Star L x
+unfolding S S?
+spaces f (end e) = end e
+spaces {x = x} f (more u v e c s) = star-one (f x (record { left = u; right = v; split = e; first = c; second = s }))

@@ -8,13 +8,15 @@ use lib.Dec.{T, ltb, eqb, eqb→eq}
 use lib.ListN.{length, drop}
 use lib.Seq.{drop-drop, drop-nil}
 use Rattle.spec.specs.Basics.{pick}
-use Rattle.spec.specs.Grammar.Characters.{Text}
-use Rattle.spec.specs.Grammar.Languages.{Lang}
+use Rattle.spec.specs.Grammar.Characters.{Text, S?, space}
+use Rattle.spec.specs.Grammar.Languages.{Lang, _·_}
+use Rattle.spec.specs.Reading.Dtd.{skip-s}
 use Rattle.spec.specs.Reading.Readers.{ok, Reader, _>>_, at-end}
-use Rattle.spec.specs.Reading.Refusals.{Refusal}
-use Rattle.spec.proofs.Agreement.Algebra.{ε}
-use Rattle.spec.proofs.Agreement.Reads.{Took, Reads, Next, drop-took, took-none}
-use Rattle.spec.proofs.Agreement.Signs.{kind, Class}
+use Rattle.spec.specs.Reading.Refusals.{Refusal, trailing}
+use Rattle.spec.proofs.Agreement.Algebra.{ε, none-after}
+use Rattle.spec.proofs.Agreement.Reads.{Took, Reads, Next, drop-took, took-none, seq}
+use Rattle.spec.proofs.Agreement.Runs.{skip}
+use Rattle.spec.proofs.Agreement.Signs.{kind, Class, _∪_, by-signs, sub-refl}
 use Rattle.spec.proofs.Base.Results.{err-ok, ok-inj, then-ok}
 use Rattle.spec.proofs.Base.Tests.{leb-true}
 
@@ -69,3 +71,18 @@ whole {body} {B} a h = record {
       subst B (sym (t .split ∙ ap (λ (z : List ℕ). t .taken ++ z) (sym (drop-took t) ∙ h u j e) ∙ append-nil (t .taken))) (t .holds);
   complete = λ u b. ap body (sym (append-nil u)) ∙ a .complete u [] b (record { it = tt });
 }
+
+-- white space before the text's end: with the end it is white space still, and its first sign
+pub blank-end : (u v : List ℕ) → S? u → Next stop v → S? (u ++ v)
+blank-end u v s t = subst S? (sym (ap (λ (z : List ℕ). u ++ z) (stop-nil v (t .it)) ∙ append-nil u)) s
+
+pub blank-first : (v : List ℕ) → S? v → T ((space ∪ stop) (kind v))
+unfolding kind
+blank-first v s = subst (λ (q : List ℕ). T ((space ∪ stop) (kind q))) (append-nil v) (skip stop (by-signs tt) .leads v [] s (record { it = tt }))
+
+-- the end of a declaration's body
+pub blank-tail : Reads (skip-s >> at-end trailing) (S? · ε) (Next stop) (space ∪ stop)
+blank-tail = seq (skip stop (by-signs tt)) sub-refl (at-end-reads trailing)
+
+pub blank-meet : (u v : List ℕ) → (S? · ε) u → Next stop v → S? (u ++ v)
+blank-meet u v c t = blank-end u v (none-after .to u c) t

@@ -73,6 +73,16 @@ leads-lit : (x v : List ℕ) → T (plain x) → T (is-head x (kind (x ++ v)))
 leads-lit [] v h = h
 leads-lit (b ∷ bs) v h = rw (kind-ascii b (bs ++ v) (leb-true (suc b) 128 (and-left (ltb b 128) (all-ascii bs) (T→true (all-ascii (b ∷ bs)) h)))) (eqb-refl b)
 
+-- the sign that stands first, as a word
+pub starts-sign : (a : ℕ) (w : List ℕ) → a < 128 → T (eqb (kind w) a) → starts (a ∷ []) w ≡ true
+unfolding starts kind
+starts-sign a [] l t = let e : 129 ≡ a = eqb-true 129 a (T→true (eqb 129 a) t) in absurd (omega arith)
+starts-sign a (b ∷ w) l t = go (ltb b 128) refl t
+  where
+    go : (x : Bool) → ltb b 128 ≡ x → T (eqb (pick x b 128) a) → (eqb b a && true) ≡ true
+    go true e h = rw (T→true (eqb b a) h)
+    go false e h = let f : 128 ≡ a = eqb-true 128 a (T→true (eqb 128 a) h) in absurd (omega arith)
+
 pub starts-split : (s w : List ℕ) → starts s w ≡ true → (v : List ℕ) × (w ≡ s ++ v)
 unfolding starts
 starts-split [] w e = (w, refl)

@@ -7,7 +7,7 @@ use native.Mathlib.Omega.{arith}
 use lib.Dec.{T, ltb}
 use lib.ListN.{length, length-append}
 use Rattle.spec.specs.Grammar.Characters.{Text}
-use Rattle.spec.specs.Grammar.Languages.{Lang, Ch, Star, end, more, any}
+use Rattle.spec.specs.Grammar.Languages.{Lang, Ch, Star, end, more, any, _·_, Plus}
 use Rattle.spec.specs.Grammar.Utf8.{scalar, encode}
 use Rattle.spec.specs.Reading.Readers.{char}
 use Rattle.spec.specs.Reading.Utf8.{decode1, point}
@@ -20,6 +20,16 @@ star-append {v = v} (more x y e l s) t = more x (y ++ v) (ap (λ (z : List ℕ).
 
 pub star-one : {L : Lang} {u : List ℕ} → L u → Star L u
 star-one {u = u} l = more u [] (sym (append-nil u)) l (end refl)
+
+-- of two parts: the size of the whole, and the whole with what stands after it
+pub cat-size : {L M : Lang} {u : List ℕ} (c : (L · M) u) → length u ≡ length (c .left) + length (c .right)
+cat-size c = ap length (c .split) ∙ length-append (c .left) (c .right)
+
+pub cat-before : {L M : Lang} {u : List ℕ} (c : (L · M) u) (v : List ℕ) → u ++ v ≡ c .left ++ (c .right ++ v)
+cat-before c v = ap (λ (z : List ℕ). z ++ v) (c .split) ∙ append-assoc (c .left) (c .right) v
+
+pub plus-star : {L : Lang} {u : List ℕ} → Plus L u → Star L u
+plus-star c = more (c .left) (c .right) (c .split) (c .first) (c .second)
 
 -- the code point that bytes begin with
 read-point : (c : ℕ) (v : List ℕ) (d : ℕ) (x : List ℕ) → scalar c ≡ true → scalar d ≡ true → encode c ++ v ≡ encode d ++ x → c ≡ d

@@ -10,7 +10,7 @@ use lib.Dec.{T, eqb, ltb}
 use lib.ListN.{length, drop, length-append, drop-of-length-le}
 use Rattle.spec.specs.Basics.{within}
 use Rattle.spec.specs.Grammar.Characters.{Text}
-use Rattle.spec.specs.Grammar.Languages.{Lang, lit, ascii, Ch, _·_, _∣_, inl, inr, Star, more, Plus, any, one-of}
+use Rattle.spec.specs.Grammar.Languages.{Lang, lit, ascii, Ch, _·_, _∣_, inl, inr, Star, Plus, any, one-of}
 use Rattle.spec.specs.Grammar.References.{digit}
 use Rattle.spec.specs.Grammar.XmlDecl.{VersionNum, latin-letter, enc-char, EncName}
 use Rattle.spec.specs.Reading.Checks.{all-of, is-version-num, is-enc-name, is-yes-or-no}
@@ -22,7 +22,7 @@ use Rattle.spec.proofs.Agreement.Texts.{texts-cat, texts-star, texts-li
 use Rattle.spec.proofs.Agreement.Words.{starts-split}
 use Rattle.spec.proofs.Base.Tests.{T→true, true→T, leb-yes, leb-true, eqb-true, eqb-yes, and-left, and-right, or-cases, within-hi}
 use Rattle.spec.proofs.Characters.Bytes.{avoids, class-avoids}
-use Rattle.spec.proofs.Characters.Text.{ascii-char, ascii-text, star-one, text-rest}
+use Rattle.spec.proofs.Characters.Text.{ascii-char, ascii-text, star-one, text-rest, cat-size, plus-star}
 use Rattle.spec.proofs.Characters.Utf8.{encode-1}
 use Rattle.spec.proofs.Wellformed.References.{Avoiding, avoiding-cat, avoiding-lit, plus-avoiding, digit-ascii}
 
@@ -62,8 +62,8 @@ star-all p small n {w} s = eqb-yes (run p w) (length w) (run-whole p small n s)
 plus-all : (p : ℕ → Bool) → Small p → p 129 ≡ false → {w : List ℕ} → Plus (Ch p) w → (ltb 0 (length w) && all-of p w) ≡ true
 plus-all p small n {w} c =
     let z : 0 < length (c .left) = ch-some (c .left) (c .first) in
-    let l : length w ≡ length (c .left) + length (c .right) = ap length (c .split) ∙ length-append (c .left) (c .right) in
-    rw (leb-yes 1 (length w) (omega arith)) (star-all p small n (more (c .left) (c .right) (c .split) (c .first) (c .second)))
+    let l : length w ≡ length (c .left) + length (c .right) = cat-size c in
+    rw (leb-yes 1 (length w) (omega arith)) (star-all p small n (plus-star c))
 
 -- VersionNum
 version-decides : Decides is-version-num VersionNum

@@ -1,6 +1,6 @@
 -- check_declaration accepts exactly the XML declarations that the grammar derives. Assumes nothing.
 use mathlib.Core.Bool.{Bool, true, false}
-use mathlib.Core.List.{List, [], _++_, append-assoc}
+use mathlib.Core.List.{List, [], _++_}
 use mathlib.Core.Path.{_≡_, sym, _∙_, ap, subst}
 use Prim.Native.Nat.{ℕ}
 use Prim.Native.String.{String}
@@ -15,16 +15,16 @@ use Rattle.spec.specs.Reading.Dtd.{skip-s}
 use Rattle.spec.specs.Reading.Readers.{Reader, _>>_, nothing, at-end, starts, choose, run}
 use Rattle.spec.specs.Reading.Refusals.{unexpected, trailing, bad-value}
 use Rattle.spec.proofs.Agreement.Accepts.{Agrees}
-use Rattle.spec.proofs.Agreement.Algebra.{ε, back, _then_, cat₂, assoc, none-after, plus-or-none}
+use Rattle.spec.proofs.Agreement.Algebra.{ε, back, _then_, cat₂, assoc, none-after}
 use Rattle.spec.proofs.Agreement.Choices.{empty-reads}
 use Rattle.spec.proofs.Agreement.Reads.{Reads, Next, seq, seq-by, alt, weaken-by, as-lang}
-use Rattle.spec.proofs.Agreement.Runs.{not-space, skip, need, past-space}
+use Rattle.spec.proofs.Agreement.Runs.{not-space, skip, need, past-space, s-s?}
 use Rattle.spec.proofs.Agreement.Signs.{kind, Class, Sub, by-signs, sub-any, sub-refl, _∪_, in-left, in-right}
 use Rattle.spec.proofs.Agreement.Texts.{Texts, texts-cat, texts-lit, texts-either, texts-none, texts-s, texts-s?}
 use Rattle.spec.proofs.Agreement.Whole.{stop, at-end-reads, Whole, whole, ends-seq, ends-at-end}
 use Rattle.spec.proofs.Agreement.Words.{plain, first-of, clash, wd, starts-clash, starts-lit}
 use Rattle.spec.proofs.Base.Results.{else-refuses}
-use Rattle.spec.proofs.Characters.Text.{all-ascii}
+use Rattle.spec.proofs.Characters.Text.{all-ascii, cat-before}
 use Rattle.spec.proofs.Dtd.Literals.{Inside, quote-first, quoted-reads}
 use Rattle.spec.proofs.Checks.Values.{Value, version-value, enc-value, yes-no-value}
 use Rattle.spec.proofs.Wellformed.References.{Avoiding}
@@ -58,10 +58,6 @@ then-past {g} h x y s t = record { sign = subst (λ (z : List ℕ). T (g (kind z
 then-sub : {p q : Class} → ((k : ℕ) → T (p k) → T (q k)) → {v : List ℕ} → Then p v → Then q v
 then-sub f {v} t = record { sign = f (kind (drop (run space v) v)) (t .sign) }
 
-s-s? : (x : List ℕ) → S x → S? x
-unfolding S S?
-s-s? x s = plus-or-none .to x (inl s)
-
 -- the test of pseudo_attr: the name is next after white space
 abbrev ahead : String → List ℕ → Bool
 ahead name w = starts (ascii name) (drop (run space w) w)
@@ -69,28 +65,24 @@ ahead name w = starts (ascii name) (drop (run space w) w)
 missed : (name : String) (g : Class) → T (clash (ascii name) [] g) → (u v : List ℕ) → u ≡ [] → Then g v → ahead name (u ++ v) ≡ false
 missed name g c u v e t = ap (λ (z : List ℕ). ahead name (z ++ v)) e ∙ starts-clash (ascii name) [] g (drop (run space v) v) c (t .sign)
 
--- what stands after the first of two parts
-opened : {L M : Lang} (u v : List ℕ) (l : (L · M) u) → u ++ v ≡ l .left ++ (l .right ++ v)
-opened u v l = ap (λ (z : List ℕ). z ++ v) (l .split) ∙ append-assoc (l .left) (l .right) v
-
 -- white space, a name, and whatever belongs to it
 module _ (name : String) (good : T (plain (ascii name))) (dark : Sub (first-of name) not-space) {K : Lang} where
   named : (u v : List ℕ) → (lit name · K) u → T (first-of name (kind (u ++ v)))
-  named u v l = subst (λ (z : List ℕ). T (first-of name (kind z))) (sym (opened u v l)) (wd name unexpected good .leads (l .left) (l .right ++ v) (l .first) (record { it = tt }))
+  named u v l = subst (λ (z : List ℕ). T (first-of name (kind z))) (sym (cat-before l v)) (wd name unexpected good .leads (l .left) (l .right ++ v) (l .first) (record { it = tt }))
 
   found : (u v : List ℕ) → (S · lit name · K) u → ahead name (u ++ v) ≡ true
-  found u v l = rw (opened u v l, past-space dark (l .left) (l .right ++ v) (s-s? (l .left) (l .first)) (named (l .right) v (l .second))) (starts-lit name v (l .second))
+  found u v l = rw (cat-before l v, past-space dark (l .left) (l .right ++ v) (s-s? (l .left) (l .first)) (named (l .right) v (l .second))) (starts-lit name v (l .second))
 
   -- with it, or without it, in front of what may follow: after the white space stands its name's first sign, or the follower's
   met : (g : Class) → {M F : Lang} → ((u v : List ℕ) → M u → F v → Then g (u ++ v))
       → (u v : List ℕ) → (Opt (S · lit name · K) · M) u → F v → Then (first-of name ∪ g) (u ++ v)
-  met g {M} {F} after u v c t = subst (Then (first-of name ∪ g)) (sym (opened u v c)) (go (c .left) (c .first))
+  met g {M} {F} after u v c t = subst (Then (first-of name ∪ g)) (sym (cat-before c v)) (go (c .left) (c .first))
     where
       go : (x : List ℕ) → Opt (S · lit name · K) x → Then (first-of name ∪ g) (x ++ (c .right ++ v))
       go x (inl l) =
           let y : List ℕ = l .right ++ (c .right ++ v) in
           let p : Then (first-of name) (l .left ++ y) = then-past dark (l .left) y (s-s? (l .left) (l .first)) (named (l .right) (c .right ++ v) (l .second)) in
-          subst (Then (first-of name ∪ g)) (sym (opened x (c .right ++ v) l)) (then-sub (λ k. in-left (first-of name k) (g k)) p)
+          subst (Then (first-of name ∪ g)) (sym (cat-before l (c .right ++ v))) (then-sub (λ k. in-left (first-of name k) (g k)) p)
       go x (inr e) = subst (λ (z : List ℕ). Then (first-of name ∪ g) (z ++ (c .right ++ v))) (sym e) (then-sub (λ k. in-right (first-of name k) (g k)) (after (c .right) v (c .second) t))
 
 -- pseudo_attr, for both names

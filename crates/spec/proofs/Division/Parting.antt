@@ -22,7 +22,7 @@ use Rattle.spec.specs.Reading.Scan.{at, subset-open}
 use Rattle.spec.proofs.Agreement.Algebra.{_then_, cat₂, assoc}
 use Rattle.spec.proofs.Agreement.Choices.{on-begun}
 use Rattle.spec.proofs.Agreement.Reads.{Reads, Next, _≅_}
-use Rattle.spec.proofs.Agreement.Runs.{not-space, skip}
+use Rattle.spec.proofs.Agreement.Runs.{not-space, skip, spaces, s-s?, no-spaces}
 use Rattle.spec.proofs.Agreement.Signs.{kind, Class, _∪_, sub-refl, by-signs, sub-at}
 use Rattle.spec.proofs.Agreement.Words.{first-of, starts-lit}
 use Rattle.spec.proofs.Base.Results.{ok-inj}
@@ -52,19 +52,6 @@ same-space x y v w a b c d e =
 
 begun : (s : String) {M : Lang} {y : List ℕ} (v : List ℕ) (l : (lit s · M) y) → y ++ v ≡ ascii s ++ (l .right ++ v)
 begun s v l = ap (λ (z : List ℕ). z ++ v) (l .split ∙ ap (λ (z : List ℕ). z ++ l .right) (l .first)) ∙ append-assoc (ascii s) (l .right) v
-
-no-spaces : S? []
-unfolding S?
-no-spaces = end refl
-
-plus-spaces : (x : List ℕ) → S x → S? x
-unfolding S S?
-plus-spaces x p = more (p .left) (p .right) (p .split) (p .first) (p .second)
-
-spaces : {L : Lang} {x : List ℕ} → ((w : List ℕ) → S w → L w) → S? x → Star L x
-unfolding S S?
-spaces f (end e) = end e
-spaces {x = x} f (more u v e c s) = more x [] (sym (append-nil x)) (f x (record { left = u; right = v; split = e; first = c; second = s })) (end refl)
 
 or-none : (b : Bool) → b || false ≡ b
 or-none true = refl
@@ -197,7 +184,7 @@ module _ (D : Dialect) (A : AsciiNames D) where
   unread-filling (end e) = last (subst S? (sym e) no-spaces)
   unread-filling (more x y e (inl m) s) = subst (Filling D true) (sym e) (add true x y m (unread-filling s))
   unread-filling (more x y e (inr (inl p)) s) = next reference [] x y e no-spaces p (unread-filling s)
-  unread-filling (more x y e (inr (inr p)) s) = subst (Filling D true) (sym e) (fill-space x (plus-spaces x p) (unread-filling s))
+  unread-filling (more x y e (inr (inr p)) s) = subst (Filling D true) (sym e) (fill-space x (s-s? x p) (unread-filling s))
 
   read-filling : {u : List ℕ} (o : List ℕ) → Star (markupdecl D false ∣ S) u → Opt (PEReference D · Unread-items) o → Filling D false (u ++ o)
   read-filling o (end e) (inr n) = last (subst S? (sym (λ i. e i ++ n i)) no-spaces)
@@ -205,7 +192,7 @@ module _ (D : Dialect) (A : AsciiNames D) where
   read-filling o (more x y e (inl m) s) q =
       subst (Filling D false) (sym (ap (λ (z : List ℕ). z ++ o) e ∙ append-assoc x y o)) (add false x (y ++ o) m (read-filling o s q))
   read-filling o (more x y e (inr p) s) q =
-      subst (Filling D false) (sym (ap (λ (z : List ℕ). z ++ o) e ∙ append-assoc x y o)) (fill-space x (plus-spaces x p) (read-filling o s q))
+      subst (Filling D false) (sym (ap (λ (z : List ℕ). z ++ o) e ∙ append-assoc x y o)) (fill-space x (s-s? x p) (read-filling o s q))
 
   -- and the other way round
   filling-unread : {pe : Bool} {w : List ℕ} → pe ≡ true → Filling D pe w → Unread-items w

@@ -22,16 +22,16 @@ use Rattle.spec.proofs.Agreement.Algebra.{same, back, _then_, cat, cat�
 use Rattle.spec.proofs.Agreement.Choices.{on-word, empty-reads, refuse-reads}
 use Rattle.spec.proofs.Agreement.Loops.{loop, loop-by}
 use Rattle.spec.proofs.Agreement.Reads.{Reads, Next, Leads, seq, seq-by, alt, weaken, as-lang, _≅_}
-use Rattle.spec.proofs.Agreement.Runs.{skip, need}
+use Rattle.spec.proofs.Agreement.Runs.{skip, need, spaced, blank-run}
 use Rattle.spec.proofs.Agreement.Signs.{kind, Class, by-signs, sub-any, sub-refl, sub-either, _∪_}
-use Rattle.spec.proofs.Agreement.Whole.{stop, Whole, whole, Ends, ends-seq}
+use Rattle.spec.proofs.Agreement.Whole.{stop, Whole, whole, Ends, ends-seq, blank-first, blank-end}
 use Rattle.spec.proofs.Agreement.Words.{wd, first-of, plain, starts-self, starts-clash, clash, starts-lit}
 use Rattle.spec.proofs.Base.Loops.{Somes, while-exit}
 use Rattle.spec.proofs.Base.Results.{ok-inj, unless-refused, then-ok}
 use Rattle.spec.proofs.Base.Somes.{some-then}
 use Rattle.spec.proofs.Base.Tests.{true→T, leb-yes, leb-no, leb-false, and-left, and-right}
+use Rattle.spec.proofs.Characters.Text.{cat-size}
 use Rattle.spec.proofs.Dtd.Literals.{quote-first}
-use Rattle.spec.proofs.Dtd.Notations.{blank-run, blank-first, blank-end, spaced}
 use Rattle.spec.proofs.Dtd.Values.{att-value-reads}
 use Rattle.spec.proofs.Wellformed.Names.{AsciiNames, start-first, part-first, name-reads, nmtoken-reads}
 
@@ -88,7 +88,7 @@ module _ (D : Dialect) (A : AsciiNames D) where
 
       some : (u : List ℕ) → Barred L u → 0 < length u
       some u l =
-          let x : length u ≡ length (l .left) + length (l .right) = ap length (l .split) ∙ length-append (l .left) (l .right) in
+          let x : length u ≡ length (l .left) + length (l .right) = cat-size l in
           let y : length (l .left) ≡ 1 = ap length (l .first) in
           omega arith
 
@@ -182,10 +182,10 @@ module _ (D : Dialect) (A : AsciiNames D) where
 
   defs-reads : Reads (while more-than-space (parse-att-def D)) (Star (AttDef D)) S? (space ∪ space ∪ stop)
   unfolding AttDef
-  defs-reads = loop-by (space ∪ stop) more-than-space (λ v s. blank-first D A v s) some yes none sub-any def-reads
+  defs-reads = loop-by (space ∪ stop) more-than-space (λ v s. blank-first v s) some yes none sub-any def-reads
     where
       length-spaced : (u : List ℕ) (l : (S · Name D · S · AttType D · S · DefaultDecl) u) → length u ≡ length (l .left) + length (l .right)
-      length-spaced u l = ap length (l .split) ∙ length-append (l .left) (l .right)
+      length-spaced u l = cat-size l
 
       right-some : (x : List ℕ) → (Name D · S · AttType D · S · DefaultDecl) x → 0 < length x
       right-some [] c = absurd (unfold kind in (named-def .leads [] [] c (record { it = tt })))
@@ -196,11 +196,11 @@ module _ (D : Dialect) (A : AsciiNames D) where
 
       yes : (u v : List ℕ) → (S · Name D · S · AttType D · S · DefaultDecl) u → Next any v → more-than-space (u ++ v) ≡ true
       yes u v l t =
-          let (r, d, n) = spaced D A (Name D · S · AttType D · S · DefaultDecl) (Next any) start-first (by-signs tt) (named-def .leads) u v l t in
+          let (r, d, n) = spaced start-first (by-signs tt) (named-def .leads) u v l t in
           rw r (leb-yes (suc (length (l .left))) (length (u ++ v)) (omega (arith, length-append u v, length-spaced u l, right-some (l .right) (l .second))))
 
       none : (v : List ℕ) → S? v → more-than-space v ≡ false
-      none v s = rw (blank-run D A v s) (leb-no (suc (length v)) (length v) (omega arith))
+      none v s = rw (blank-run v s) (leb-no (suc (length v)) (length v) (omega arith))
 
   some-def : Somes (parse-att-def D)
   unfolding parse-att-def require-s required skip-s
@@ -226,5 +226,5 @@ module _ (D : Dialect) (A : AsciiNames D) where
   attlist-whole =
       whole
       (seq (need start-first (by-signs tt)) sub-refl
-      (seq (weaken (by-signs tt) sub-refl (name-reads D A)) sub-refl (seq-by defs-reads (blank-end D A) (skip stop (by-signs tt)))))
+      (seq (weaken (by-signs tt) sub-refl (name-reads D A)) sub-refl (seq-by defs-reads blank-end (skip stop (by-signs tt)))))
       (ends-seq _ _ (ends-seq _ _ list-ends))

@@ -6,7 +6,7 @@ use Prim.Native.Nat.{ℕ, zero, suc, _+_, _<_}
 use Prim.Native.String.{String}
 use native.Mathlib.Omega.{arith}
 use lib.Dec.{T, ltb, eqb}
-use lib.ListN.{length, drop, length-append}
+use lib.ListN.{length, drop}
 use lib.Seq.{drop-append-seam}
 use Rattle.spec.specs.Grammar.Characters.{S?, space}
 use Rattle.spec.specs.Grammar.ContentModels.{Mixed, choice, sequence, occurrence, cp, Group, children, contentspec}
@@ -27,6 +27,7 @@ use Rattle.spec.proofs.Agreement.Signs.{kind, Class, Sub, sub-at, by-si
 use Rattle.spec.proofs.Agreement.Whole.{stop, at-end-reads}
 use Rattle.spec.proofs.Agreement.Words.{wd, first-of, plain, starts-self, starts-clash, starts-lit, starts-lit₂}
 use Rattle.spec.proofs.Base.Tests.{T→true, and-left, and-right, not-true}
+use Rattle.spec.proofs.Characters.Text.{cat-size, cat-before}
 use Rattle.spec.proofs.Wellformed.Names.{AsciiNames, start-first, name-reads}
 
 -- the signs after a particle, after a connector's particle and its white space, and before a particle
@@ -56,7 +57,7 @@ module _ (D : Dialect) (A : AsciiNames D) where
 
   joined-some : (s : String) (a : ℕ) (p : List ℕ) → ascii s ≡ a ∷ p → {M : Lang} (u : List ℕ) → (lit s · M) u → 0 < length u
   joined-some s a p e u l =
-      let x : length u ≡ length (l .left) + length (l .right) = ap length (l .split) ∙ length-append (l .left) (l .right) in
+      let x : length u ≡ length (l .left) + length (l .right) = cat-size l in
       let y : length (l .left) ≡ suc (length p) = ap length (l .first ∙ e) in
       omega arith
 
@@ -233,7 +234,7 @@ module _ (D : Dialect) (A : AsciiNames D) where
 
   children-begun : (u v : List ℕ) → children D u → starts (ascii "(") (u ++ v) ≡ true
   unfolding children
-  children-begun u v l = ap (starts (ascii "(")) (ap (λ (z : List ℕ). z ++ v) (l .split) ∙ append-assoc (l .left) (l .right) v) ∙ group-begun (D .groups) (l .left) (l .right ++ v) (l .first)
+  children-begun u v l = ap (starts (ascii "(")) (cat-before l v) ∙ group-begun (D .groups) (l .left) (l .right ++ v) (l .first)
 
   pub contents-reads : Reads (parse-contentspec D) (contentspec D) (Next after-spec) (one-of "EA(")
   unfolding parse-contentspec contentspec children

@@ -30,6 +30,7 @@ use Rattle.spec.proofs.Base.Loops.{while-exit}
 use Rattle.spec.proofs.Base.Results.{then-ok}
 use Rattle.spec.proofs.Base.Somes.{some-char}
 use Rattle.spec.proofs.Base.Tests.{T→true, leb-true, eqb-true, or-cases}
+use Rattle.spec.proofs.Characters.Text.{cat-before}
 use Rattle.spec.proofs.Characters.Utf8.{decode-1}
 use Rattle.spec.proofs.Dtd.Literals.{external-id-reads}
 use Rattle.spec.proofs.Dtd.Subset.{Written, subset-reads}
@@ -80,7 +81,7 @@ module _ (D : Dialect) (A : AsciiNames D) (M : Bool → Lang) (reads-markup : (p
       or-true false b e = e
 
       ahead : (u v : List ℕ) → (ExternalID · S?) u → Next before-end v → (starts (ascii "SYSTEM") (u ++ v) || starts (ascii "PUBLIC") (u ++ v)) ≡ true
-      ahead u v l t = subst (λ (q : List ℕ). (starts (ascii "SYSTEM") q || starts (ascii "PUBLIC") q) ≡ true) (sym (ap (λ (q : List ℕ). q ++ v) (l .split) ∙ append-assoc (l .left) (l .right) v)) (go (l .first))
+      ahead u v l t = subst (λ (q : List ℕ). (starts (ascii "SYSTEM") q || starts (ascii "PUBLIC") q) ≡ true) (sym (cat-before l v)) (go (l .first))
         where
           go : ExternalID (l .left) → (starts (ascii "SYSTEM") (l .left ++ (l .right ++ v)) || starts (ascii "PUBLIC") (l .left ++ (l .right ++ v))) ≡ true
           go (inl x) = ap (λ (b : Bool). b || starts (ascii "PUBLIC") (l .left ++ (l .right ++ v))) (starts-lit "SYSTEM" (l .right ++ v) x)
@@ -187,7 +188,7 @@ module _ (D : Dialect) (A : AsciiNames D) (M : Bool → Lang) (reads-markup : (p
     where
       z : (x : List ℕ) → Opt (lit "[" · Written D A M reads-markup · lit "]" · S?) x → T (before-end (kind (x ++ v)))
       z x (inl l) = sub-at (first-of "[") before-end (by-signs tt) (x ++ v)
-          (subst (λ (q : List ℕ). T (first-of "[" (kind q))) (sym (ap (λ (q : List ℕ). q ++ v) (l .split) ∙ append-assoc (l .left) (l .right) v)) (wd "[" unexpected tt .leads (l .left) (l .right ++ v) (l .first) (record { it = tt })))
+          (subst (λ (q : List ℕ). T (first-of "[" (kind q))) (sym (cat-before l v)) (wd "[" unexpected tt .leads (l .left) (l .right ++ v) (l .first) (record { it = tt })))
       z x (inr o) = sub-at stop before-end (by-signs tt) (x ++ v) (subst (λ (q : List ℕ). T (stop (kind (q ++ v)))) (sym o) (t .it))
 
       go : (x : List ℕ) → Opt (S · ExternalID) x → u ≡ x ++ c .right → T (tail-after (kind (u ++ v)))
@@ -216,7 +217,7 @@ module _ (D : Dialect) (A : AsciiNames D) (M : Bool → Lang) (reads-markup : (p
         (sound-after (λ w. begins (D .part) w ≡ false) (name D) tail-reader (Name D) Tail (name-reads D A .sound) (munch D A) tail-sound);
     complete = complete-seq skip-s _ S? (Name D · Tail) (Next start-first) (Next stop) (skip start-first (by-signs tt) .complete)
         (complete-seq (name D) tail-reader (Name D) Tail (Next ends-name) (Next stop) (name-reads D A .complete) (λ u v c t. raw-reads .complete u v (raw-of u c) t) meet)
-        (λ u v c t. record { it = subst (λ (q : List ℕ). T (start-first (kind q))) (sym (ap (λ (q : List ℕ). q ++ v) (c .split) ∙ append-assoc (c .left) (c .right) v)) (name-reads D A .leads (c .left) (c .right ++ v) (c .first) (meet (c .right) v (c .second) t)) });
+        (λ u v c t. record { it = subst (λ (q : List ℕ). T (start-first (kind q))) (sym (cat-before c v)) (name-reads D A .leads (c .left) (c .right ++ v) (c .first) (meet (c .right) v (c .second) t)) });
     leads = λ u v c t. tt;
   }
     where

@@ -13,7 +13,7 @@ use lib.Seq.{take-append-seam}
 use Rattle.spec.specs.Basics.{pick}
 use Rattle.spec.specs.Grammar.Characters.{Text, S, space}
 use Rattle.spec.specs.Grammar.Declarations.{PI}
-use Rattle.spec.specs.Grammar.Languages.{Lang, lit, ascii, Ch, _·_, inl, inr, Star, end, more, Plus, Opt, any, one-of, none-of, _∖_}
+use Rattle.spec.specs.Grammar.Languages.{Lang, lit, ascii, Ch, _·_, inl, inr, Star, end, Plus, Opt, any, one-of, none-of, _∖_}
 use Rattle.spec.specs.Grammar.Names.{Dialect, Name, NCName, PITarget}
 use Rattle.spec.specs.Reading.Dtd.{reserved, check-target, check-pi, parse-pi}
 use Rattle.spec.specs.Reading.Readers.{ok, err, _>>_, run, contains}
@@ -28,7 +28,7 @@ use Rattle.spec.proofs.Agreement.Words.{wd, first-of}
 use Rattle.spec.proofs.Base.Results.{then-ok, unless-refused}
 use Rattle.spec.proofs.Base.Tests.{T→true, true→T, no→false, and-left, and-right}
 use Rattle.spec.proofs.Characters.Bytes.{avoids, avoids-append, class-avoids, text-front}
-use Rattle.spec.proofs.Characters.Text.{text-rest, ascii-char, star-one, all-ascii}
+use Rattle.spec.proofs.Characters.Text.{text-rest, ascii-char, star-one, all-ascii, plus-star}
 use Rattle.spec.proofs.Characters.Utf8.{encode-1}
 use Rattle.spec.proofs.Agreement.Holds.{contains-avoid, contains-after, free-holds, holds-free, first-after, after-first}
 use Rattle.spec.proofs.Dtd.Notations.{no-colon}
@@ -147,7 +147,7 @@ module _ (D : Dialect) (A : AsciiNames D) where
       go o (inr e) = ap (contains QG) e
       go o (inl l) =
           let s : Plus (Ch space) (l .left) = l .first in
-          ap (contains QG) (l .split) ∙ contains-avoid 63 (62 ∷ []) (l .left) (l .right) (class-avoids space 63 (omega arith) refl (more (s .left) (s .right) (s .split) (s .first) (s .second))) ∙ unmarked-free (l .right) (l .second)
+          ap (contains QG) (l .split) ∙ contains-avoid 63 (62 ∷ []) (l .left) (l .right) (class-avoids space 63 (omega arith) refl (plus-star s)) ∙ unmarked-free (l .right) (l .second)
 
   space-run : (o : List ℕ) → Opt (S · Unmarked) o → run solid o ≡ 0
   unfolding S run

@@ -1,9 +1,9 @@
 -- Literals in quotes, and external identifiers. Assumes nothing.
 use mathlib.Core.Logic
-use mathlib.Core.Bool.{Bool, true, false, _&&_, _||_}
+use mathlib.Core.Bool.{Bool, true, false, _&&_, _||_, or-true}
 use mathlib.Core.List.{List, [], _∷_}
-use mathlib.Core.Logic.{_⊎_}
-use mathlib.Core.Path.{_≡_, refl}
+use mathlib.Core.Logic.{_⊎_, ⊎-elim}
+use mathlib.Core.Path.{_≡_, refl, _∙_, ap}
 use Prim.Native.Nat.{ℕ, suc, _<_}
 use Prim.Native.String.{String}
 use native.Mathlib.Omega.{arith}
@@ -15,17 +15,17 @@ use Rattle.spec.specs.Grammar.Languages.{Lang, lit, ascii, Ch, _·_, inl
 use Rattle.spec.specs.Grammar.Literals.{Quoted, SystemLiteral, PubidLiteral, ExternalID, pubid-char}
 use Rattle.spec.specs.Grammar.References.{digit}
 use Rattle.spec.specs.Reading.Dtd.{parse-quoted, check-pubid, parse-external-id}
-use Rattle.spec.specs.Reading.Readers.{Result, ok, nothing, run, up-to}
+use Rattle.spec.specs.Reading.Readers.{Result, ok, nothing, run, up-to, starts}
 use Rattle.spec.specs.Reading.Refusals.{Refusal, unterminated, no-literal, unexpected, bad-pubid}
 use Rattle.spec.proofs.Agreement.Choices.{on-word}
 use Rattle.spec.proofs.Agreement.Holds.{first-sign, sign-first}
 use Rattle.spec.proofs.Agreement.Reads.{Reads, Next, seq, weaken}
 use Rattle.spec.proofs.Agreement.Runs.{need, whole-run, run-whole, among-ascii}
-use Rattle.spec.proofs.Agreement.Signs.{Class, by-signs, sub-any, sub-refl}
+use Rattle.spec.proofs.Agreement.Signs.{Class, by-signs, sub-any, sub-refl, kind}
 use Rattle.spec.proofs.Agreement.UpTo.{up-to-reads}
-use Rattle.spec.proofs.Agreement.Words.{wd}
+use Rattle.spec.proofs.Agreement.Words.{wd, starts-sign}
 use Rattle.spec.proofs.Base.Results.{else-refused}
-use Rattle.spec.proofs.Base.Tests.{T→true, true→T, leb-yes, eqb-true, eqb-yes, or-cases, within-hi, both-left}
+use Rattle.spec.proofs.Base.Tests.{T→true, true→T, leb-yes, eqb-true, eqb-yes, or-cases, within-hi, both-left, two-signs}
 use Rattle.spec.proofs.Characters.Bytes.{avoids, class-avoids, avoids-class, not-one}
 use Rattle.spec.proofs.Characters.Text.{star-map}
 
@@ -43,6 +43,13 @@ up-to-quote s a n check X is l i =
 -- the quotes, as signs
 abbrev pub quote-first : Class
 quote-first = one-of "\"'"
+
+-- a text that begins with one of them
+pub at-quote : (w : List ℕ) → T (quote-first (kind w)) → (starts (ascii "\"") w || starts (ascii "'") w) ≡ true
+at-quote w t =
+    ⊎-elim (λ x. ap (λ (b : Bool). b || starts (ascii "'") w) (starts-sign 34 w (omega arith) (true→T (eqb (kind w) 34) (eqb-yes (kind w) 34 x))))
+    (λ x. ap (λ (b : Bool). starts (ascii "\"") w || b) (starts-sign 39 w (omega arith) (true→T (eqb (kind w) 39) (eqb-yes (kind w) 39 x))) ∙ or-true (starts (ascii "\"") w))
+    (two-signs 34 39 (kind w) (T→true (quote-first (kind w)) t))
 
 pub quoted-reads : (check : List ℕ → Result) (D E : Lang) → Inside check D 34 → Inside check E 39 → Reads (parse-quoted check) (Quoted D E) (Next any) quote-first
 unfolding parse-quoted

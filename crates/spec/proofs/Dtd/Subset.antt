@@ -1,12 +1,11 @@
 -- The internal subset, over any reader of its declarations. Assumes nothing.
-use mathlib.Core.Bool.{Bool, true, false, _&&_}
+use mathlib.Core.Bool.{Bool, true, false}
 use mathlib.Core.List.{List, [], _∷_, _++_, append-assoc, append-nil}
 use mathlib.Core.Path.{_≡_, refl, sym, _∙_, ap, subst}
 use Prim.Native.Nat.{ℕ, zero, suc, _+_, _≤_, _<_}
 use native.Mathlib.Omega.{arith}
-use lib.Dec.{T, ltb, eqb}
+use lib.Dec.{T}
 use lib.ListN.{length, length-append}
-use Rattle.spec.specs.Basics.{pick}
 use Rattle.spec.specs.Grammar.Characters.{S, S?}
 use Rattle.spec.specs.Grammar.Languages.{Lang, lit, ascii, _·_, _∣_, inl, inr, Star, end, more, Opt, any}
 use Rattle.spec.specs.Grammar.Names.{Dialect, PEReference}
@@ -16,24 +15,13 @@ use Rattle.spec.specs.Reading.Refusals.{unterminated, unexpected}
 use Rattle.spec.proofs.Agreement.Algebra.{ε}
 use Rattle.spec.proofs.Agreement.Choices.{refuse-reads}
 use Rattle.spec.proofs.Agreement.Reads.{Sound, Complete, Leads, Reads, Next, sound-seq, complete-seq, seq, as-lang, weaken, took-as, sound-choose}
-use Rattle.spec.proofs.Agreement.Runs.{not-space, skip}
+use Rattle.spec.proofs.Agreement.Runs.{not-space, skip, spaces, s-s?, no-spaces}
 use Rattle.spec.proofs.Agreement.Signs.{kind, Class, Sub, by-signs, sub-any, sub-refl}
 use Rattle.spec.proofs.Agreement.Whole.{at-end-reads}
-use Rattle.spec.proofs.Agreement.Words.{wd, first-of, starts-clash}
+use Rattle.spec.proofs.Agreement.Words.{wd, first-of, starts-clash, starts-sign}
 use Rattle.spec.proofs.Base.Results.{err-ok}
-use Rattle.spec.proofs.Base.Tests.{T→true, eqb-true}
-use Rattle.spec.proofs.Characters.Text.{star-append}
+use Rattle.spec.proofs.Characters.Text.{star-append, cat-size, cat-before}
 use Rattle.spec.proofs.Wellformed.Names.{AsciiNames, name-reads}
-
--- the sign that stands first, as a word
-pub starts-sign : (a : ℕ) (w : List ℕ) → a < 128 → T (eqb (kind w) a) → starts (a ∷ []) w ≡ true
-unfolding starts kind
-starts-sign a [] l t = let e : 129 ≡ a = eqb-true 129 a (T→true (eqb 129 a) t) in absurd (omega arith)
-starts-sign a (b ∷ w) l t = go (ltb b 128) refl t
-  where
-    go : (x : Bool) → ltb b 128 ≡ x → T (eqb (pick x b 128) a) → (eqb b a && true) ≡ true
-    go true e h = rw (T→true (eqb b a) h)
-    go false e h = let f : 128 ≡ a = eqb-true 128 a (T→true (eqb 128 a) h) in absurd (omega arith)
 
 module _ (D : Dialect) (A : AsciiNames D) (M : Bool → Lang) (reads-markup : (pe : Bool) → Reads (parse-markup-decl D pe) (M pe) (Next any) (first-of "<")) where
   pub pe-reads : Reads (parse-pe-reference D) (PEReference D) (Next any) (first-of "%")
@@ -87,7 +75,7 @@ module _ (D : Dialect) (A : AsciiNames D) (M : Bool → Lang) (reads-markup : (p
 
   items-some : {pe : Bool} {w : List ℕ} → Items pe w → 0 < length w
   items-some {w = w} (close c) =
-      let a : length w ≡ length (c .left) + length (c .right) = ap length (c .split) ∙ length-append (c .left) (c .right) in
+      let a : length w ≡ length (c .left) + length (c .right) = cat-size c in
       let b : length (c .right) ≡ 1 = ap length (c .second) in
       omega arith
   items-some {w = w} (refer x y z e s p i) =
@@ -163,19 +151,6 @@ module _ (D : Dialect) (A : AsciiNames D) (M : Bool → Lang) (reads-markup : (p
   abbrev pub Written : Lang
   Written = Star (M false ∣ S) · Opt (PEReference D · Unread-items)
 
-  spaces : {L : Lang} {x : List ℕ} → ((w : List ℕ) → S w → L w) → S? x → Star L x
-  unfolding S S?
-  spaces f (end e) = end e
-  spaces {x = x} f (more u v e c s) = more x [] (sym (append-nil x)) (f x (record { left = u; right = v; split = e; first = c; second = s })) (end refl)
-
-  plus-spaces : (x : List ℕ) → S x → S? x
-  unfolding S S?
-  plus-spaces x p = more (p .left) (p .right) (p .split) (p .first) (p .second)
-
-  no-spaces : S? []
-  unfolding S?
-  no-spaces = end refl
-
   prepend : {pe : Bool} {w : List ℕ} (x : List ℕ) → S? x → Items pe w → Items pe (x ++ w)
   unfolding S?
   prepend x s (close c) = close (record { left = x ++ c .left; right = c .right; split = ap (λ (z : List ℕ). x ++ z) (c .split) ∙ sym (append-assoc x (c .left) (c .right)); first = star-append s (c .first); second = c .second })
@@ -202,7 +177,7 @@ module _ (D : Dialect) (A : AsciiNames D) (M : Bool → Lang) (reads-markup : (p
   unread-items v (more x y e (inl p) s) m = declare [] x (y ++ v) (ap (λ (z : List ℕ). z ++ v) e ∙ append-assoc x y v) no-spaces p (unread-items v s m)
   unread-items v (more x y e (inr (inl p)) s) m = refer [] x (y ++ v) (ap (λ (z : List ℕ). z ++ v) e ∙ append-assoc x y v) no-spaces p (unread-items v s m)
   unread-items v (more x y e (inr (inr p)) s) m =
-      subst (Items true) (sym (ap (λ (z : List ℕ). z ++ v) e ∙ append-assoc x y v)) (prepend x (plus-spaces x p) (unread-items v s m))
+      subst (Items true) (sym (ap (λ (z : List ℕ). z ++ v) e ∙ append-assoc x y v)) (prepend x (s-s? x p) (unread-items v s m))
 
   read-written : {w : List ℕ} → Items false w → (Written · lit "]") w
   read-written (close c) = record {
@@ -235,10 +210,10 @@ module _ (D : Dialect) (A : AsciiNames D) (M : Bool → Lang) (reads-markup : (p
   read-items : {u : List ℕ} (o v : List ℕ) → Star (M false ∣ S) u → Opt (PEReference D · Unread-items) o → lit "]" v → Items false (u ++ (o ++ v))
   read-items o v (end e) (inr n) m = close (record { left = []; right = v; split = (λ i. e i ++ (n i ++ v)); first = no-spaces; second = m })
   read-items o v (end e) (inl c) m =
-      refer [] (c .left) (c .right ++ v) (ap (λ (z : List ℕ). z ++ (o ++ v)) e ∙ ap (λ (z : List ℕ). z ++ v) (c .split) ∙ append-assoc (c .left) (c .right) v) no-spaces (c .first) (unread-items v (c .second) m)
+      refer [] (c .left) (c .right ++ v) (ap (λ (z : List ℕ). z ++ (o ++ v)) e ∙ cat-before c v) no-spaces (c .first) (unread-items v (c .second) m)
   read-items o v (more x y e (inl p) s) q m = declare [] x (y ++ (o ++ v)) (ap (λ (z : List ℕ). z ++ (o ++ v)) e ∙ append-assoc x y (o ++ v)) no-spaces p (read-items o v s q m)
   read-items o v (more x y e (inr p) s) q m =
-      subst (Items false) (sym (ap (λ (z : List ℕ). z ++ (o ++ v)) e ∙ append-assoc x y (o ++ v))) (prepend x (plus-spaces x p) (read-items o v s q m))
+      subst (Items false) (sym (ap (λ (z : List ℕ). z ++ (o ++ v)) e ∙ append-assoc x y (o ++ v))) (prepend x (s-s? x p) (read-items o v s q m))
 
   pub subset-reads : Reads (parse-internal-subset D) (Written · lit "]") (Next any) any
   subset-reads = as-lang (record {

@@ -27,7 +27,7 @@ use Rattle.spec.proofs.Agreement.Signs.{kind}
 use Rattle.spec.proofs.Agreement.Words.{contains-at, starts-split}
 use Rattle.spec.proofs.Base.Tests.{T→true, no→false, decide, leb-true, leb-false, and-left, and-right}
 use Rattle.spec.proofs.Characters.Bytes.{avoids}
-use Rattle.spec.proofs.Characters.Text.{all-ascii}
+use Rattle.spec.proofs.Characters.Text.{all-ascii, cat-size, plus-star}
 use Rattle.spec.proofs.Characters.Utf8.{encode-1, decode-1, decode-read, Read}
 use Rattle.spec.proofs.Dtd.Comments.{twice, no-twice, first-close}
 use Rattle.spec.proofs.Dtd.Instructions.{Unmarked, Inner, inner-free, sign-avoids, reserved-xml}
@@ -95,8 +95,8 @@ run-over {u} z (more x y e c s) =
 pass-space : (u z : List ℕ) → S u → next-item (u ++ z) ≡ moved (length u) (next-item z)
 unfolding S
 pass-space u z s =
-    let r : run space (u ++ z) ≡ length u + run space z = run-over z (more (s .left) (s .right) (s .split) (s .first) (s .second)) in
-    let l : length u ≡ length (s .left) + length (s .right) = ap length (s .split) ∙ length-append (s .left) (s .right) in
+    let r : run space (u ++ z) ≡ length u + run space z = run-over z (plus-star s) in
+    let l : length u ≡ length (s .left) + length (s .right) = cat-size s in
     let h : 0 < length (s .left) = ch-some (s .left) (s .first) in
     next-space (u ++ z) (omega arith)
     ∙ ap (λ (n : ℕ). moved n (next-item (drop n (u ++ z)))) r

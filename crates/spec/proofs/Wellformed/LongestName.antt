@@ -2,10 +2,10 @@
 -- Assumes nothing.
 use mathlib.Core.Path.{_≡_, refl, sym, _∙_, ap}
 use mathlib.Core.Bool.{Bool, true, false}
-use mathlib.Core.List.{List, [], _++_, append-assoc}
+use mathlib.Core.List.{List, [], _++_}
 use Prim.Native.Nat.{ℕ, zero, suc, _+_, _-_, _≤_, _<_}
 use native.Mathlib.Omega.{arith}
-use lib.ListN.{length, take, drop, length-append, length-drop}
+use lib.ListN.{length, take, drop, length-drop}
 use lib.Seq.{drop-at, take-at, take-add}
 use Rattle.spec.specs.Grammar.Utf8.{scalar, encode}
 use Rattle.spec.specs.Grammar.Languages.{Lang, Ch, _·_, Star, end, more}
@@ -17,6 +17,7 @@ use Rattle.spec.specs.Reading.Wellformed.{parts, name, name-length}
 use Rattle.spec.proofs.Base.Tests.{T→true, true→T}
 use Rattle.spec.proofs.Base.Results.{err-ok}
 use Rattle.spec.proofs.Base.Loops.{while-turn, while-stop}
+use Rattle.spec.proofs.Characters.Text.{cat-size, cat-before, plus-star}
 use Rattle.spec.proofs.Characters.Utf8.{Read, decode-read, decode-encode, char-point, point-size}
 
 -- k bytes of w are of the language, and no front part of w that is of the language is longer
@@ -94,7 +95,7 @@ module _ (p : ℕ → Bool) (n : Refusal) where
   module _ (L : Lang) (w : List ℕ) where
     module _ (u v : List ℕ) (f : w ≡ u ++ v) (h : (Ch p · L) u) where
       regroup : w ≡ h .left ++ (h .right ++ v)
-      regroup = f ∙ ap (λ (x : List ℕ). x ++ v) (h .split) ∙ append-assoc (h .left) (h .right) v
+      regroup = f ∙ cat-before h v
 
       leads : char p n w ≡ ok (length (h .left))
       leads = ap (char p n) regroup ∙ char-takes (h .left) (h .right ++ v) (h .first)
@@ -113,7 +114,7 @@ module _ (p : ℕ → Bool) (n : Refusal) where
               let i = leads u v f h in
               let m : length (h .left) ≡ k = cc in
               let l = t .longest (h .right) v (ap (drop k) (regroup u v f h) ∙ drop-at (h .left) (h .right ++ v) k m) (h .second) in
-              let q = ap length (h .split) ∙ length-append (h .left) (h .right) in
+              let q = cat-size h in
               omega arith;
         }
 
@@ -125,9 +126,6 @@ chars p n = while (begins p) (char p n)
 star-longest : (L : Lang) (w : List ℕ) (k : ℕ) → ((u v : List ℕ) → w ≡ u ++ v → (L · Star L) u → length u ≤ k) → (u v : List ℕ) → w ≡ u ++ v → Star L u → length u ≤ k
 star-longest L w k f u v e (end g) = let l = ap length g in omega arith
 star-longest L w k f u v e (more a b g h s) = f u v e (record { left = a; right = b; split = g; first = h; second = s })
-
-star-more : (L : Lang) (u : List ℕ) → (L · Star L) u → Star L u
-star-more L u h = more (h .left) (h .right) (h .split) (h .first) (h .second)
 
 module _ (p : ℕ → Bool) (n : Refusal) where
   pub chars-stop : (w : List ℕ) → char p n w ≡ err n → chars p n w ≡ ok 0
@@ -170,7 +168,7 @@ module _ (p : ℕ → Bool) (n : Refusal) where
               chars-turn w k e ∙ (rw f),
               record {
                 within = h .within;
-                derived = star-more (Ch p) (take (k + j) w) (h .derived);
+                derived = plus-star (h .derived);
                 longest = star-longest (Ch p) w (k + j) (h .longest);
               },
             ),

@@ -27,7 +27,7 @@ use Rattle.spec.proofs.Agreement.Words.{wd, first-of, starts-self, star
 use Rattle.spec.proofs.Base.Results.{ok-inj, unless-refused, else-refused}
 use Rattle.spec.proofs.Base.Tests.{T→true, true→T, eqb-no, or-cases, or-false-left, or-false-right, within-hi, not-false}
 use Rattle.spec.proofs.Characters.Bytes.{avoids-append, class-avoids, avoids}
-use Rattle.spec.proofs.Characters.Text.{text-rest, ascii-text, star-one}
+use Rattle.spec.proofs.Characters.Text.{text-rest, ascii-text, star-one, cat-size, plus-star}
 
 pub digit-ascii : (c : ℕ) → T (digit c) → c < 128
 digit-ascii c t = omega (arith, within-hi 0x30 0x39 c (T→true (digit c) t))
@@ -79,16 +79,13 @@ module _ (base : ℕ) (d : ℕ → Bool) (small : (c : ℕ) → T (d c) → c < 
   unfolding reference denotes-char
   reference-reads = record { sound = reference-sound; complete = complete-by; leads = leads-by }
     where
-      plus-star : {u : List ℕ} → Plus (Ch d) u → Star (Ch d) u
-      plus-star p = more (p .left) (p .right) (p .split) (p .first) (p .second)
-
       complete-by : (u v : List ℕ) → (Digits · lit ";") u → Next any v → reference base d (u ++ v) ≡ ok (length u)
       complete-by u v l t =
           let x : List ℕ = l .left in
           let e : u ++ v ≡ x ++ (59 ∷ v) = ap (λ (z : List ℕ). z ++ v) (l .split ∙ ap (λ (z : List ℕ). x ++ z) (l .second)) ∙ append-assoc x (ascii ";") v in
           let r : run d (x ++ (59 ∷ v)) ≡ length x = run-complete d small (first-of ";") closes (59 ∷ v) (plus-star (l .first .0)) (unfold kind in tt) in
           let p : Plus (Ch d) x = l .first .0 in
-          let n : length x ≡ length (p .left) + length (p .right) = ap length (p .split) ∙ length-append (p .left) (p .right) in
+          let n : length x ≡ length (p .left) + length (p .right) = cat-size p in
           let m : 0 < length (p .left) = ch-some (p .left) (p .first) in
           let z : eqb (length x) 0 ≡ false = eqb-no (length x) 0 (λ q. omega arith) in
           let len : length u ≡ length x + 1 = ap length (l .split) ∙ length-append x (l .right) ∙ ap (λ (q : List ℕ). length x + length q) (l .second) in
