@@ -1,8 +1,8 @@
 -- Runs of bytes of an ASCII class, and white space. Assumes nothing.
 use mathlib.Core.Logic
-use mathlib.Core.Bool.{Bool, true, false, not, true≢false}
+use mathlib.Core.Bool.{Bool, true, false, not, true≢false, _||_}
 use mathlib.Core.List.{List, [], _∷_, _++_, append-assoc, append-nil}
-use mathlib.Core.Logic.{_⊎_}
+use mathlib.Core.Logic.{_⊎_, ⊎-elim}
 use mathlib.Core.Path.{_≡_, refl, sym, _∙_, ap, subst}
 use Prim.Native.Nat.{ℕ, suc, _+_, _<_}
 use native.Mathlib.Omega.{arith}
@@ -10,34 +10,38 @@ use borrow.Author.Tests.{eqb-false}
 use lib.Dec.{T, ltb, eqb, eqb→eq}
 use lib.ListN.{length, drop, length-append, drop-of-length-le}
 use lib.Seq.{drop-append-seam}
-use Rattle.spec.specs.Basics.{pick}
+use Rattle.spec.specs.Basics.{pick, within}
 use Rattle.spec.specs.Grammar.Characters.{Text, space, S, S?}
 use Rattle.spec.specs.Grammar.Languages.{Lang, ascii, Ch, inl, inr, Star, end, more, Plus, any, among, _·_}
 use Rattle.spec.specs.Reading.Dtd.{skip-s, require-s}
 use Rattle.spec.specs.Reading.Readers.{ok, err, Reader, run, required, char}
 use Rattle.spec.specs.Reading.Refusals.{Refusal, no-space}
 use Rattle.spec.proofs.Agreement.Chars.{kind-encode, sign, ch-some}
-use Rattle.spec.proofs.Agreement.Reads.{Took, Reads, Next, next, Leads, took-as, took-none}
+use Rattle.spec.proofs.Agreement.Reads.{Took, Reads, Next, Leads, took-as, took-none}
 use Rattle.spec.proofs.Agreement.Signs.{kind, kind-ascii, Class, Sub, sub-at, _∪_, in-left, in-right}
 use Rattle.spec.proofs.Base.Results.{ok-inj, on-ok-ok, unless-refused}
-use Rattle.spec.proofs.Base.Tests.{T→true, true→T, decide, leb-yes, leb-true, eqb-true, eqb-no, and-left, and-right, or-cases}
+use Rattle.spec.proofs.Base.Tests.{T→true, true→T, decide, leb-yes, leb-true, eqb-no, or-cases, within-hi, both-left, both-right}
 use Rattle.spec.proofs.Characters.Text.{ascii-char, text-rest, star-one, all-ascii, cat-size, plus-star, cat-before}
 use Rattle.spec.proofs.Characters.Utf8.{encode-1}
 
--- a sign among ASCII signs is ASCII
-pub among-ascii : (s : List ℕ) → T (all-ascii s) → (c : ℕ) → T (among s c) → c < 128
-among-ascii [] h c t = absurd t
-among-ascii (b ∷ bs) h c t = go (among-ascii bs (true→T (all-ascii bs) (and-right (ltb b 128) (all-ascii bs) (T→true (all-ascii (b ∷ bs)) h))) c) (or-cases (eqb c b) (among bs c) (T→true (among (b ∷ bs) c) t))
-  where
-    go : (T (among bs c) → c < 128) → (eqb c b ≡ true) ⊎ (among bs c ≡ true) → c < 128
-    go next (Logic.inl e) =
-        let f : c ≡ b = eqb-true c b e in
-        let g : b < 128 = leb-true (suc b) 128 (and-left (ltb b 128) (all-ascii bs) (T→true (all-ascii (b ∷ bs)) h)) in
-        omega arith
-    go next (Logic.inr e) = next (true→T (among bs c) e)
+-- classes of ASCII signs: ranges, the signs of a word, and either of two
+abbrev pub Small : (ℕ → Bool) → Type 0
+Small p = (c : ℕ) → T (p c) → c < 128
+
+pub small-within : (lo hi : ℕ) → hi < 128 → Small (within lo hi)
+small-within lo hi h c t = omega (arith, within-hi lo hi c (T→true (within lo hi c) t))
+
+pub small-or : (p q : ℕ → Bool) → Small p → Small q → Small (λ c. p c || q c)
+small-or p q f g c t = ⊎-elim (λ e. f c (true→T (p c) e)) (λ e. g c (true→T (q c) e)) (or-cases (p c) (q c) (T→true (p c || q c) t))
+
+pub among-ascii : (s : List ℕ) → T (all-ascii s) → Small (among s)
+among-ascii [] h = λ c t. absurd t
+among-ascii (b ∷ s) h =
+    small-or (λ c. eqb c b) (among s) (λ c t. let e : c ≡ b = eqb→eq c b t in let l : b < 128 = leb-true (suc b) 128 (T→true (ltb b 128) (both-left (ltb b 128) (all-ascii s) h)) in omega arith)
+    (among-ascii s (both-right (ltb b 128) (all-ascii s) h))
 
 -- a run of bytes of an ASCII class
-module _ (p : ℕ → Bool) (small : (c : ℕ) → T (p c) → c < 128) where
+module _ (p : ℕ → Bool) (small : Small p) where
   pub run-took : (w : List ℕ) → Text w → Took (Star (Ch p)) (run p w) w
   unfolding run Text
   run-took [] tw = took-none refl tw (end refl)
@@ -91,7 +95,7 @@ module _ (p : ℕ → Bool) (small : (c : ℕ) → T (p c) → c < 128) where
           rw (e, b, kind-ascii (c .char) (y ++ v) (small (c .char) (c .in-class))) (in-left (p (c .char)) (q (c .char)) (c .in-class))
 
 -- a run that is the whole text
-pub whole-run : (p : ℕ → Bool) → ((c : ℕ) → T (p c) → c < 128) → (u : List ℕ) → Text u → run p u ≡ length u → Star (Ch p) u
+pub whole-run : (p : ℕ → Bool) → Small p → (u : List ℕ) → Text u → run p u ≡ length u → Star (Ch p) u
 whole-run p small u tu e =
     let t : Took (Star (Ch p)) (run p u) u = run-took p small u tu in
     let l : length u ≡ length (t .taken) + length (t .rest) = ap length (t .split) ∙ length-append (t .taken) (t .rest) in
@@ -99,7 +103,7 @@ whole-run p small u tu e =
     let n : t .rest ≡ [] = drop-of-length-le (t .rest) {i = 0} (omega arith) in
     subst (Star (Ch p)) (sym (t .split ∙ ap (λ (x : List ℕ). t .taken ++ x) n ∙ append-nil (t .taken))) (t .holds)
 
-pub run-whole : (p : ℕ → Bool) → ((c : ℕ) → T (p c) → c < 128) → p 129 ≡ false → {u : List ℕ} → Star (Ch p) u → run p u ≡ length u
+pub run-whole : (p : ℕ → Bool) → Small p → p 129 ≡ false → {u : List ℕ} → Star (Ch p) u → run p u ≡ length u
 unfolding kind
 run-whole p small n {u} s =
     ap (run p) (sym (append-nil u))
@@ -135,11 +139,11 @@ at-least-one {r} {L} {F} {g} n f some-L lead a = record { sound = sound-by; comp
     leads-by u v l t = rw (l .split, append-assoc (l .left) (l .right) v) (lead (l .left) (l .right ++ v) (l .first))
 
 -- a character of an ASCII class is its own sign
-pub ascii-lead : (p : ℕ → Bool) → ((c : ℕ) → T (p c) → c < 128) → (c : ℕ) → T (p c) → T (p (sign c))
+pub ascii-lead : (p : ℕ → Bool) → Small p → (c : ℕ) → T (p c) → T (p (sign c))
 ascii-lead p small c t = rw (leb-yes (suc c) 128 (small c t)) t
 
 -- S? and S: what follows is no white space
-pub space-ascii : (c : ℕ) → T (space c) → c < 128
+pub space-ascii : Small space
 space-ascii = among-ascii (ascii " \t\r\n") tt
 
 abbrev pub not-space : Class

@@ -11,8 +11,8 @@ use lib.ListN.{length, length-append}
 use Rattle.spec.specs.Grammar.Languages.{Ch, inl, inr, Star, end, more, any}
 use Rattle.spec.specs.Grammar.Utf8.{encode}
 use Rattle.spec.specs.Reading.Utf8.{tail}
-use Rattle.spec.proofs.Base.Tests.{T→true, true→T, false→no, decide, leb-yes, leb-true, leb-false, eqb-yes, eqb-no, and-left, and-right, within-yes, within-lo, not-true}
-use Rattle.spec.proofs.Characters.Utf8.{encode-1, encode-2, encode-3, encode-4}
+use Rattle.spec.proofs.Base.Tests.{T→true, true→T, false→no, decide, leb-yes, leb-true, leb-false, eqb-yes, eqb-no, and-left, and-right, within-lo, not-true}
+use Rattle.spec.proofs.Characters.Utf8.{encode-1, encode-2, encode-3, encode-4, tail-yes}
 
 -- bytes that are all above ASCII
 abbrev pub all-high : List ℕ → Bool
@@ -137,9 +137,6 @@ pub record Bytes (c : ℕ) : Type 0 where
   pub tails : List ℕ
   pub are : encode c ≡ head ∷ tails
   pub tailed : all-tails tails ≡ true
-
-tail-yes : (n : ℕ) → tail (0x80 + n % 64) ≡ true
-tail-yes n = within-yes 0x80 0xBF (0x80 + n % 64) (omega arith) (omega arith)
 
 pub bytes-of : (c : ℕ) → Bytes c
 bytes-of c = by-1 (decide (ltb c 0x80))

@@ -1,6 +1,6 @@
 -- The suspect bytes: on a character's bytes the test of check_suspect_byte says whether it is a Char (production 2). Assumes nothing.
 use mathlib.Core.Logic
-use mathlib.Core.Bool.{Bool, true, false, _&&_, _||_, not, true≢false}
+use mathlib.Core.Bool.{true, false, _&&_, _||_, not, true≢false, or-true}
 use mathlib.Core.List.{List, [], _∷_, _++_}
 use mathlib.Core.Logic.{_⊎_}
 use mathlib.Core.Path.{_≡_, refl, sym, _∙_, ap}
@@ -15,8 +15,8 @@ use Rattle.spec.specs.Reading.Readers.{starts}
 use Rattle.spec.specs.Reading.Utf8.{tail}
 use Rattle.spec.specs.Reading.Wellformed.{illegal-here}
 use Rattle.spec.proofs.Agreement.Signs.{below, below-at}
-use Rattle.spec.proofs.Base.Tests.{alike, alike-same, decide, leb-no, leb-true, leb-false, eqb-yes, eqb-no, eqb-true, within-yes, within-low, within-high, within-lo, within-hi, or-cases}
-use Rattle.spec.proofs.Characters.Utf8.{encode-1, encode-2, encode-3, encode-4}
+use Rattle.spec.proofs.Base.Tests.{alike, alike-same, decide, leb-no, leb-true, leb-false, eqb-yes, eqb-no, eqb-true, within-yes, within-low, within-high, within-lo, within-hi}
+use Rattle.spec.proofs.Characters.Utf8.{encode-1, encode-2, encode-3, encode-4, scalar-cases}
 
 -- the same, where no byte below 128 comes first: only U+FFFE and U+FFFF are left
 high-here : (b : ℕ) (w : List ℕ) → 128 ≤ b → (b ≡ 0xEF → ⊥) → illegal-here (b ∷ w) ≡ false
@@ -27,10 +27,6 @@ pub tail-legal : (b : ℕ) (w : List ℕ) → tail b ≡ true → illegal-here (
 tail-legal b w h = let l = within-lo 0x80 0xBF b h in let g = within-hi 0x80 0xBF b h in high-here b w (omega arith) (λ e. omega arith)
 
 -- production 2, by its ranges
-or-true : (a : Bool) → (a || true) ≡ true
-or-true true = refl
-or-true false = refl
-
 low-char : (c : ℕ) → 0x20 ≤ c → c ≤ 0xD7FF → xml-char c ≡ true
 unfolding xml-char
 low-char c h g = rw (within-yes 0x20 0xD7FF c h g, or-true (one-of "\t\n\r" c))
@@ -47,13 +43,6 @@ no-char : (c : ℕ) → 0xFFFE ≤ c → c ≤ 0xFFFF → xml-char c ≡ false
 unfolding xml-char
 no-char c h g =
     rw (eqb-no c 9 (λ e. omega arith), eqb-no c 10 (λ e. omega arith), eqb-no c 13 (λ e. omega arith), within-high 0x20 0xD7FF c (omega arith), within-high 0xE000 0xFFFD c (omega arith), within-low 0x10000 0x10FFFF c (omega arith))
-
-scalar-3 : (c : ℕ) → scalar c ≡ true → (c ≤ 0xD7FF) ⊎ ((0xE000 ≤ c) × (c ≤ 0x10FFFF))
-scalar-3 c s = go (or-cases (leb c 0xD7FF) (within 0xE000 0x10FFFF c) s)
-  where
-    go : (leb c 0xD7FF ≡ true) ⊎ (within 0xE000 0x10FFFF c ≡ true) → (c ≤ 0xD7FF) ⊎ ((0xE000 ≤ c) × (c ≤ 0x10FFFF))
-    go (Logic.inl e) = Logic.inl (leb-true c 0xD7FF e)
-    go (Logic.inr e) = Logic.inr (within-lo 0xE000 0x10FFFF c e, within-hi 0xE000 0x10FFFF c e)
 
 -- below 128: a computed test of each sign
 ascii-alike : below 128 (λ c. alike (illegal-here (c ∷ [])) (not (xml-char c))) ≡ true
@@ -83,7 +72,7 @@ three-here c v h g s = by-range (decide (leb 0xFFFE c))
     low e = leb-false 0xFFFE c e
 
     legal : leb 0xFFFE c ≡ false → xml-char c ≡ true
-    legal e = go (scalar-3 c s)
+    legal e = go (scalar-cases c s)
       where
         go : (c ≤ 0xD7FF) ⊎ ((0xE000 ≤ c) × (c ≤ 0x10FFFF)) → xml-char c ≡ true
         go (Logic.inl l) = low-char c (omega arith) l
@@ -117,7 +106,7 @@ legal-here c v s = by-1 (decide (ltb c 0x80))
   where
     by-3 : 0x800 ≤ c → (ltb c 0x10000 ≡ true) ⊎ (ltb c 0x10000 ≡ false) → illegal-here (encode c ++ v) ≡ not (xml-char c)
     by-3 h (Logic.inl e) = let g = leb-true (suc c) 0x10000 e in rw (encode-3 c h g) (three-here c v h g s)
-    by-3 h (Logic.inr e) = let g = leb-false (suc c) 0x10000 e in top (scalar-3 c s)
+    by-3 h (Logic.inr e) = let g = leb-false (suc c) 0x10000 e in top (scalar-cases c s)
       where
         top : (c ≤ 0xD7FF) ⊎ ((0xE000 ≤ c) × (c ≤ 0x10FFFF)) → illegal-here (encode c ++ v) ≡ not (xml-char c)
         top (Logic.inl l) = absurd (let g = leb-false (suc c) 0x10000 e in omega arith)

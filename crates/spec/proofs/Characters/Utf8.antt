@@ -116,7 +116,7 @@ scalar-is c f h = go (leb c 0xD7FF) refl
     go false e = within-yes 0xE000 0x10FFFF c (f (leb-false c 0xD7FF e)) h
 
 -- the bytes of each row read back
-tail-yes : (n : ℕ) → tail (0x80 + n % 64) ≡ true
+pub tail-yes : (n : ℕ) → tail (0x80 + n % 64) ≡ true
 tail-yes n = within-yes 0x80 0xBF (0x80 + n % 64) (omega arith) (omega arith)
 
 pub decode-1 : (c : ℕ) (v : List ℕ) → c < 0x80 → decode1 (c ∷ v) ≡ point c 1

@@ -17,10 +17,10 @@ use Rattle.spec.specs.Reading.Checks.{all-of, is-version-num, is-enc-nam
 use Rattle.spec.specs.Reading.Readers.{starts, run}
 use Rattle.spec.proofs.Agreement.Accepts.{Decides}
 use Rattle.spec.proofs.Agreement.Chars.{ch-some}
-use Rattle.spec.proofs.Agreement.Runs.{among-ascii, whole-run, run-whole, star-plus}
+use Rattle.spec.proofs.Agreement.Runs.{among-ascii, whole-run, run-whole, star-plus, Small, small-or, small-within}
 use Rattle.spec.proofs.Agreement.Texts.{texts-cat, texts-star, texts-lit, texts-ch, texts-either, texts-plus}
 use Rattle.spec.proofs.Agreement.Words.{starts-split}
-use Rattle.spec.proofs.Base.Tests.{T→true, true→T, leb-yes, leb-true, eqb-true, eqb-yes, and-left, and-right, or-cases, within-hi}
+use Rattle.spec.proofs.Base.Tests.{T→true, true→T, leb-yes, leb-true, eqb-true, eqb-yes, and-left, and-right, or-cases}
 use Rattle.spec.proofs.Characters.Bytes.{avoids, class-avoids}
 use Rattle.spec.proofs.Characters.Text.{ascii-char, ascii-text, star-one, text-rest, cat-size, plus-star}
 use Rattle.spec.proofs.Characters.Utf8.{encode-1}
@@ -33,19 +33,8 @@ pub record Value (test : List ℕ → Bool) (L : Lang) : Type 0 where
   pub no-double : Avoiding 34 L
   pub no-single : Avoiding 39 L
 
--- classes of ASCII signs
-abbrev Small : (ℕ → Bool) → Type 0
-Small p = (c : ℕ) → T (p c) → c < 128
-
-small-or : (p q : ℕ → Bool) → Small p → Small q → Small (λ c. p c || q c)
-small-or p q f g c t = go (or-cases (p c) (q c) (T→true (p c || q c) t))
-  where
-    go : (p c ≡ true) ⊎ (q c ≡ true) → c < 128
-    go (Logic.inl e) = f c (true→T (p c) e)
-    go (Logic.inr e) = g c (true→T (q c) e)
-
 letter-ascii : Small latin-letter
-letter-ascii = small-or (within 0x41 0x5A) (within 0x61 0x7A) (λ c t. omega (arith, within-hi 0x41 0x5A c (T→true (within 0x41 0x5A c) t))) (λ c t. omega (arith, within-hi 0x61 0x7A c (T→true (within 0x61 0x7A c) t)))
+letter-ascii = small-or (within 0x41 0x5A) (within 0x61 0x7A) (small-within 0x41 0x5A (omega arith)) (small-within 0x61 0x7A (omega arith))
 
 enc-ascii : Small enc-char
 enc-ascii = small-or (λ c. latin-letter c || digit c) (one-of "._-") (small-or latin-letter digit letter-ascii digit-ascii) (among-ascii (ascii "._-") tt)

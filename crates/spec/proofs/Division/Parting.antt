@@ -1,7 +1,7 @@
 -- The grammar divides the internal subset into entries, and in one way only. Assumes nothing.
 use mathlib.Core.Logic
 use Rattle.spec.proofs.Dtd.Subset as Subset
-use mathlib.Core.Bool.{Bool, true, false, _||_}
+use mathlib.Core.Bool.{Bool, true, false, _||_, or-false, or-true}
 use mathlib.Core.List.{List, [], _∷_, _++_, append-assoc, append-nil}
 use mathlib.Core.Logic.{_⊎_}
 use mathlib.Core.Path.{_≡_, refl, sym, _∙_, ap, subst}
@@ -52,14 +52,6 @@ same-space x y v w a b c d e =
 
 begun : (s : String) {M : Lang} {y : List ℕ} (v : List ℕ) (l : (lit s · M) y) → y ++ v ≡ ascii s ++ (l .right ++ v)
 begun s v l = ap (λ (z : List ℕ). z ++ v) (l .split ∙ ap (λ (z : List ℕ). z ++ l .right) (l .first)) ∙ append-assoc (ascii s) (l .right) v
-
-or-none : (b : Bool) → b || false ≡ b
-or-none true = refl
-or-none false = refl
-
-or-all : (b : Bool) → b || true ≡ true
-or-all true = refl
-or-all false = refl
 
 module _ (D : Dialect) (A : AsciiNames D) where
   pub kind-is : (pe : Bool) (k : Kind) (y v : List ℕ) → entry-of D pe k y → kind-at (y ++ v) ≡ k
@@ -167,7 +159,7 @@ module _ (D : Dialect) (A : AsciiNames D) where
   add pe y z m f = go m
     where
       one : (k : Kind) → refers k ≡ false → entry-of D pe k y → Filling D pe (y ++ z)
-      one k e l = next k [] y z refl no-spaces l (subst (λ (b : Bool). Filling D b z) (sym (ap (λ (b : Bool). pe || b) e ∙ or-none pe)) f)
+      one k e l = next k [] y z refl no-spaces l (subst (λ (b : Bool). Filling D b z) (sym (ap (λ (b : Bool). pe || b) e ∙ or-false pe)) f)
 
       go : markupdecl D pe y → Filling D pe (y ++ z)
       go (inl l) = one element refl l
@@ -215,7 +207,7 @@ module _ (D : Dialect) (A : AsciiNames D) where
         right = y ++ z;
         split = e;
         first = spaces (λ w s. inr s) b;
-        second = inl (record { left = y; right = z; split = refl; first = x .1; second = filling-unread (ap (λ (v : Bool). pe || v) (x .0) ∙ or-all pe) f });
+        second = inl (record { left = y; right = z; split = refl; first = x .1; second = filling-unread (ap (λ (v : Bool). pe || v) (x .0) ∙ or-true pe) f });
       }
       go (Logic.inr x) ih =
           let t : (Star (markupdecl D false ∣ S) · Opt (PEReference D · Unread-items)) z = ih ((λ i. h i || x .0 i)) in

@@ -1,5 +1,5 @@
 -- Content models: mixed ones, and groups in groups to a height. Assumes nothing.
-use mathlib.Core.Bool.{Bool, true, false, _&&_, _||_, not}
+use mathlib.Core.Bool.{Bool, true, false, _&&_, _||_, not, or-true}
 use mathlib.Core.List.{List, [], _∷_, _++_, append-assoc}
 use mathlib.Core.Path.{_≡_, refl, _∙_, ap}
 use Prim.Native.Nat.{ℕ, zero, suc, _+_, _<_}
@@ -73,17 +73,13 @@ module _ (D : Dialect) (A : AsciiNames D) where
       seq (after-reads s good b) h
       (loop (first-of ")") connector (λ u l. joined-some s a p is u l) (λ u v l t. joins (u ++ v) (starts-lit s v l)) stop-connector h (on-or-refuse s bad-connector (after-reads s good b)))
 
-  or-true : (a b : Bool) → b ≡ true → (a || b) ≡ true
-  or-true true b e = refl
-  or-true false b e = e
-
   bar-connected : {r : Reader} {C : Lang} → Reads r C (Next after-cp) cp-first → Reads (connected "|" r) (Plus (Joined "|" C)) (Next (first-of ")")) (first-of "|")
   unfolding connector
   bar-connected = connected-reads "|" 124 [] refl tt (by-signs tt) (λ w e. ap (λ (b : Bool). b || starts (ascii ",") w) e)
 
   comma-connected : {r : Reader} {C : Lang} → Reads r C (Next after-cp) cp-first → Reads (connected "," r) (Plus (Joined "," C)) (Next (first-of ")")) (first-of ",")
   unfolding connector
-  comma-connected = connected-reads "," 44 [] refl tt (by-signs tt) (λ w e. or-true (starts (ascii "|") w) (starts (ascii ",") w) e)
+  comma-connected = connected-reads "," 44 [] refl tt (by-signs tt) (λ w e. ap (λ (b : Bool). starts (ascii "|") w || b) e ∙ or-true (starts (ascii "|") w))
 
   -- a group, as it is read
   abbrev Inner : Lang → Lang

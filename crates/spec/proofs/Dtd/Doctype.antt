@@ -1,6 +1,6 @@
 -- The whole DOCTYPE, over any reader of its declarations. Assumes nothing.
 use mathlib.Core.Logic
-use mathlib.Core.Bool.{Bool, true, false, _||_, true≢false}
+use mathlib.Core.Bool.{Bool, true, false, _||_, true≢false, or-true}
 use mathlib.Core.List.{List, [], _∷_, _++_, append-assoc, append-nil}
 use mathlib.Core.Logic.{_⊎_}
 use mathlib.Core.Path.{_≡_, refl, sym, _∙_, ap, subst}
@@ -29,7 +29,7 @@ use Rattle.spec.proofs.Agreement.Words.{wd, first-of, starts-clash, sta
 use Rattle.spec.proofs.Base.Loops.{while-exit}
 use Rattle.spec.proofs.Base.Results.{then-ok}
 use Rattle.spec.proofs.Base.Somes.{some-char}
-use Rattle.spec.proofs.Base.Tests.{T→true, leb-true, eqb-true, or-cases}
+use Rattle.spec.proofs.Base.Tests.{T→true, leb-true, two-signs}
 use Rattle.spec.proofs.Characters.Text.{cat-before}
 use Rattle.spec.proofs.Characters.Utf8.{decode-1}
 use Rattle.spec.proofs.Dtd.Literals.{external-id-reads}
@@ -76,16 +76,12 @@ module _ (D : Dialect) (A : AsciiNames D) (M : Bool → Lang) (reads-markup : (p
       (seq (alt (λ w. starts (ascii "SYSTEM") w || starts (ascii "PUBLIC") w) ahead (λ u v e t. none u v e (t .it)) (seq external-id-reads sub-any (skip before-end (by-signs tt))) (empty-reads before-end)) (by-signs tt)
       (seq (on-word "[" tt (seq (wd "[" unexpected tt) sub-any (seq (subset-reads D A M reads-markup) sub-any (skip stop (by-signs tt)))) (empty-reads stop)) sub-refl (at-end-reads trailing))))
     where
-      or-true : (a b : Bool) → b ≡ true → (a || b) ≡ true
-      or-true true b e = refl
-      or-true false b e = e
-
       ahead : (u v : List ℕ) → (ExternalID · S?) u → Next before-end v → (starts (ascii "SYSTEM") (u ++ v) || starts (ascii "PUBLIC") (u ++ v)) ≡ true
       ahead u v l t = subst (λ (q : List ℕ). (starts (ascii "SYSTEM") q || starts (ascii "PUBLIC") q) ≡ true) (sym (cat-before l v)) (go (l .first))
         where
           go : ExternalID (l .left) → (starts (ascii "SYSTEM") (l .left ++ (l .right ++ v)) || starts (ascii "PUBLIC") (l .left ++ (l .right ++ v))) ≡ true
           go (inl x) = ap (λ (b : Bool). b || starts (ascii "PUBLIC") (l .left ++ (l .right ++ v))) (starts-lit "SYSTEM" (l .right ++ v) x)
-          go (inr x) = or-true (starts (ascii "SYSTEM") (l .left ++ (l .right ++ v))) (starts (ascii "PUBLIC") (l .left ++ (l .right ++ v))) (starts-lit "PUBLIC" (l .right ++ v) x)
+          go (inr x) = ap (λ (b : Bool). starts (ascii "SYSTEM") (l .left ++ (l .right ++ v)) || b) (starts-lit "PUBLIC" (l .right ++ v) x) ∙ or-true (starts (ascii "SYSTEM") (l .left ++ (l .right ++ v)))
 
       none : (u v : List ℕ) → ε u → T (before-end (kind v)) → (starts (ascii "SYSTEM") (u ++ v) || starts (ascii "PUBLIC") (u ++ v)) ≡ false
       none u v e t =
@@ -98,23 +94,12 @@ module _ (D : Dialect) (A : AsciiNames D) (M : Bool → Lang) (reads-markup : (p
   named [] t = absurd t
   named (b ∷ w) t = go (ltb b 128) refl t
     where
-      is-part : (or : (b ≡ 83) ⊎ (b ≡ 80)) → D .part b ≡ true
+      is-part : (b ≡ 83) ⊎ (b ≡ 80) → D .part b ≡ true
       is-part (Logic.inl e) = ap (D .part) e ∙ A .part-ascii 83 (omega arith)
       is-part (Logic.inr e) = ap (D .part) e ∙ A .part-ascii 80 (omega arith)
 
-      which : T (one-of "SP" b) → (b ≡ 83) ⊎ (b ≡ 80)
-      which t = og (or-cases (eqb b 83) (eqb b 80 || false) (T→true (one-of "SP" b) t))
-        where
-          gg : (eqb b 80 ≡ true) ⊎ (false ≡ true) → (b ≡ 83) ⊎ (b ≡ 80)
-          gg (Logic.inl x) = Logic.inr (eqb-true b 80 x)
-          gg (Logic.inr x) = absurd (true≢false (sym x))
-
-          og : (eqb b 83 ≡ true) ⊎ ((eqb b 80 || false) ≡ true) → (b ≡ 83) ⊎ (b ≡ 80)
-          og (Logic.inl x) = Logic.inl (eqb-true b 83 x)
-          og (Logic.inr x) = gg (or-cases (eqb b 80) false x)
-
       go : (x : Bool) → ltb b 128 ≡ x → T (one-of "SP" (pick x b 128)) → begins (D .part) (b ∷ w) ≡ true
-      go true e h = rw (decode-1 b w (leb-true (suc b) 128 e)) (is-part (which h))
+      go true e h = rw (decode-1 b w (leb-true (suc b) 128 e)) (is-part (two-signs 83 80 b (T→true (one-of "SP" b) h)))
       go false e h = absurd h
 
   bracket : ((In-brackets ∣ ε) · ε) ≅ Opt (lit "[" · Written D A M reads-markup · lit "]" · S?)

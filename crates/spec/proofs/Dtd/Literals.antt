@@ -2,7 +2,7 @@
 use mathlib.Core.Logic
 use mathlib.Core.Bool.{Bool, true, false, _&&_, _||_, or-true}
 use mathlib.Core.List.{List, [], _∷_}
-use mathlib.Core.Logic.{_⊎_, ⊎-elim}
+use mathlib.Core.Logic.{⊎-elim}
 use mathlib.Core.Path.{_≡_, refl, _∙_, ap}
 use Prim.Native.Nat.{ℕ, suc, _<_}
 use Prim.Native.String.{String}
@@ -11,7 +11,7 @@ use lib.Dec.{T, ltb, eqb}
 use lib.ListN.{length}
 use Rattle.spec.specs.Basics.{within}
 use Rattle.spec.specs.Grammar.Characters.{Text}
-use Rattle.spec.specs.Grammar.Languages.{Lang, lit, ascii, Ch, _·_, inl, inr, Star, any, one-of, none-of}
+use Rattle.spec.specs.Grammar.Languages.{Lang, lit, ascii, Ch, _·_, Star, any, one-of, none-of}
 use Rattle.spec.specs.Grammar.Literals.{Quoted, SystemLiteral, PubidLiteral, ExternalID, pubid-char}
 use Rattle.spec.specs.Grammar.References.{digit}
 use Rattle.spec.specs.Reading.Dtd.{parse-quoted, check-pubid, parse-external-id}
@@ -20,12 +20,12 @@ use Rattle.spec.specs.Reading.Refusals.{Refusal, unterminated, no-litera
 use Rattle.spec.proofs.Agreement.Choices.{on-word}
 use Rattle.spec.proofs.Agreement.Holds.{first-sign, sign-first}
 use Rattle.spec.proofs.Agreement.Reads.{Reads, Next, seq, weaken}
-use Rattle.spec.proofs.Agreement.Runs.{need, whole-run, run-whole, among-ascii}
+use Rattle.spec.proofs.Agreement.Runs.{need, whole-run, run-whole, among-ascii, Small, small-or, small-within}
 use Rattle.spec.proofs.Agreement.Signs.{Class, by-signs, sub-any, sub-refl, kind}
 use Rattle.spec.proofs.Agreement.UpTo.{up-to-reads}
 use Rattle.spec.proofs.Agreement.Words.{wd, starts-sign}
 use Rattle.spec.proofs.Base.Results.{else-refused}
-use Rattle.spec.proofs.Base.Tests.{T→true, true→T, leb-yes, eqb-true, eqb-yes, or-cases, within-hi, both-left, two-signs}
+use Rattle.spec.proofs.Base.Tests.{T→true, true→T, leb-yes, eqb-true, eqb-yes, both-left, two-signs}
 use Rattle.spec.proofs.Characters.Bytes.{avoids, class-avoids, avoids-class, not-one}
 use Rattle.spec.proofs.Characters.Text.{star-map}
 
@@ -74,21 +74,13 @@ system-literal-reads =
     quoted-reads nothing (Star (Ch (none-of "\""))) (Star (Ch (none-of "'")))
     (any-inside 34 (none-of "\"") (omega arith) refl (not-one 34)) (any-inside 39 (none-of "'") (omega arith) refl (not-one 39))
 
-pubid-ascii : (c : ℕ) → T (pubid-char c) → c < 128
+pubid-ascii : Small pubid-char
 unfolding pubid-char
-pubid-ascii c t = go₁ (or-cases (one-of " \r\n-'()+,./:=?;!*#@$_%" c || digit c || within 0x41 0x5A c) (within 0x61 0x7A c) (T→true (pubid-char c) t))
-  where
-    go₃ : (one-of " \r\n-'()+,./:=?;!*#@$_%" c ≡ true) ⊎ (digit c ≡ true) → c < 128
-    go₃ (Logic.inl e) = among-ascii (ascii " \r\n-'()+,./:=?;!*#@$_%") tt c (true→T (one-of " \r\n-'()+,./:=?;!*#@$_%" c) e)
-    go₃ (Logic.inr e) = omega (arith, within-hi 0x30 0x39 c e)
-
-    go₂ : ((one-of " \r\n-'()+,./:=?;!*#@$_%" c || digit c) ≡ true) ⊎ (within 0x41 0x5A c ≡ true) → c < 128
-    go₂ (Logic.inl e) = go₃ (or-cases (one-of " \r\n-'()+,./:=?;!*#@$_%" c) (digit c) e)
-    go₂ (Logic.inr e) = omega (arith, within-hi 0x41 0x5A c e)
-
-    go₁ : ((one-of " \r\n-'()+,./:=?;!*#@$_%" c || digit c || within 0x41 0x5A c) ≡ true) ⊎ (within 0x61 0x7A c ≡ true) → c < 128
-    go₁ (Logic.inl e) = go₂ (or-cases (one-of " \r\n-'()+,./:=?;!*#@$_%" c || digit c) (within 0x41 0x5A c) e)
-    go₁ (Logic.inr e) = omega (arith, within-hi 0x61 0x7A c e)
+pubid-ascii =
+    small-or (λ c. one-of " \r\n-'()+,./:=?;!*#@$_%" c || digit c || within 0x41 0x5A c) (within 0x61 0x7A)
+    (small-or (λ c. one-of " \r\n-'()+,./:=?;!*#@$_%" c || digit c) (within 0x41 0x5A)
+    (small-or (one-of " \r\n-'()+,./:=?;!*#@$_%") digit (among-ascii (ascii " \r\n-'()+,./:=?;!*#@$_%") tt) (small-within 0x30 0x39 (omega arith)))
+    (small-within 0x41 0x5A (omega arith))) (small-within 0x61 0x7A (omega arith))
 
 pubid-inside : (a : ℕ) (p : ℕ → Bool) → a < 128 → p a ≡ false → ((c : ℕ) → T (p c) → T (pubid-char c)) → ((c : ℕ) → T (pubid-char c) → (c ≡ a → ⊥) → T (p c)) → Inside check-pubid (Star (Ch p)) a
 unfolding check-pubid

@@ -5,10 +5,10 @@ use mathlib.Core.Logic.{_⊎_}
 use mathlib.Core.Path.{_≡_, refl, _∙_}
 use Prim.Native.Nat.{ℕ, suc, _<_}
 use lib.Dec.{T, ltb, eqb}
-use Rattle.spec.specs.Basics.{within}
 use Rattle.spec.specs.Grammar.Languages.{Ch, inl, inr, Star, one-of}
 use Rattle.spec.specs.Grammar.Names.{Dialect, Name, Nmtoken}
 use Rattle.spec.specs.Grammar.References.{digit}
+use Rattle.spec.specs.Grammar.XmlDecl.{latin-letter}
 use Rattle.spec.specs.Reading.Dtd.{nmtoken}
 use Rattle.spec.specs.Reading.Readers.{begins, char, at-end}
 use Rattle.spec.specs.Reading.Refusals.{bad-name}
@@ -23,14 +23,11 @@ use Rattle.spec.proofs.Agreement.Whole.{at-end-reads, Whole, whole, end
 use Rattle.spec.proofs.Base.Tests.{decide, leb-true}
 
 -- the ASCII part of the name classes
-abbrev pub letter : ℕ → Bool
-letter c = within 0x41 0x5A c || within 0x61 0x7A c
-
 abbrev pub start-sign : Class
-start-sign k = letter k || one-of "_:" k
+start-sign k = latin-letter k || one-of "_:" k
 
 abbrev pub part-sign : Class
-part-sign k = letter k || one-of "_:-." k || digit k
+part-sign k = latin-letter k || one-of "_:-." k || digit k
 
 pub record AsciiNames (D : Dialect) : Type 0 where
   pub start-ascii : (c : ℕ) → c < 128 → D .start c ≡ start-sign c

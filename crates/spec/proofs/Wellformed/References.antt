@@ -2,13 +2,12 @@
 use mathlib.Core.Logic
 use mathlib.Core.Bool.{Bool, true, false, _&&_, _||_, not, true≢false}
 use mathlib.Core.List.{List, [], _∷_, _++_, append-assoc}
-use mathlib.Core.Logic.{_⊎_}
 use mathlib.Core.Path.{_≡_, refl, sym, _∙_, ap, subst}
 use Prim.Native.Nat.{ℕ, _+_, _<_}
 use Prim.Native.String.{String}
 use native.Mathlib.Omega.{arith}
 use borrow.Author.Tests.{eqb-false}
-use lib.Dec.{T, eqb}
+use lib.Dec.{eqb}
 use lib.ListN.{length, take, drop, length-append}
 use lib.Seq.{drop-append-seam, take-append-seam, take-at}
 use Rattle.spec.specs.Basics.{pick, within}
@@ -21,29 +20,21 @@ use Rattle.spec.specs.Reading.Wellformed.{reference, char-ref}
 use Rattle.spec.proofs.Agreement.Algebra.{swap}
 use Rattle.spec.proofs.Agreement.Chars.{kind-encode, ch-some}
 use Rattle.spec.proofs.Agreement.Reads.{Took, Reads, Next, Leads, seq, alt, weaken, as-lang, drop-took}
-use Rattle.spec.proofs.Agreement.Runs.{run-took, run-complete, ascii-lead, star-plus}
+use Rattle.spec.proofs.Agreement.Runs.{run-took, run-complete, ascii-lead, star-plus, Small, small-or, small-within}
 use Rattle.spec.proofs.Agreement.Signs.{kind, Sub, by-signs, sub-any}
 use Rattle.spec.proofs.Agreement.Words.{wd, first-of, starts-self, starts-clash, starts-split, starts-lit}
 use Rattle.spec.proofs.Base.Results.{ok-inj, unless-refused, else-refused}
-use Rattle.spec.proofs.Base.Tests.{T→true, true→T, eqb-no, or-cases, or-false-left, or-false-right, within-hi, not-false}
+use Rattle.spec.proofs.Base.Tests.{T→true, true→T, eqb-no, or-false-left, or-false-right, not-false}
 use Rattle.spec.proofs.Characters.Bytes.{avoids-append, class-avoids, avoids}
 use Rattle.spec.proofs.Characters.Text.{text-rest, ascii-text, star-one, cat-size, plus-star}
 
-pub digit-ascii : (c : ℕ) → T (digit c) → c < 128
-digit-ascii c t = omega (arith, within-hi 0x30 0x39 c (T→true (digit c) t))
+pub digit-ascii : Small digit
+digit-ascii = small-within 0x30 0x39 (omega arith)
 
-hex-ascii : (c : ℕ) → T (hex-digit c) → c < 128
-hex-ascii c t = go (or-cases (digit c || within 0x41 0x46 c) (within 0x61 0x66 c) (T→true (hex-digit c) t))
-  where
-    og : (digit c ≡ true) ⊎ (within 0x41 0x46 c ≡ true) → c < 128
-    og (Logic.inl e) = digit-ascii c (true→T (digit c) e)
-    og (Logic.inr e) = omega (arith, within-hi 0x41 0x46 c e)
+hex-ascii : Small hex-digit
+hex-ascii = small-or (λ c. digit c || within 0x41 0x46 c) (within 0x61 0x66) (small-or digit (within 0x41 0x46) digit-ascii (small-within 0x41 0x46 (omega arith))) (small-within 0x61 0x66 (omega arith))
 
-    go : ((digit c || within 0x41 0x46 c) ≡ true) ⊎ (within 0x61 0x66 c ≡ true) → c < 128
-    go (Logic.inl e) = og (or-cases (digit c) (within 0x41 0x46 c) e)
-    go (Logic.inr e) = omega (arith, within-hi 0x61 0x66 c e)
-
-module _ (base : ℕ) (d : ℕ → Bool) (small : (c : ℕ) → T (d c) → c < 128) (closes : Sub (first-of ";") (λ k. not (d k))) where
+module _ (base : ℕ) (d : ℕ → Bool) (small : Small d) (closes : Sub (first-of ";") (λ k. not (d k))) where
   abbrev Digits : Lang
   Digits = Plus (Ch d) & denotes-char base
 

@@ -1,7 +1,7 @@
 -- A walk through a text that checks each "&#" as a character reference and each other character against a class: what it accepts is
 -- text of the class around references. One theorem for check_char_refs, check_text and check_attr_value. Assumes nothing.
 use mathlib.Core.Logic
-use mathlib.Core.Bool.{Bool, true, false, _&&_, _||_}
+use mathlib.Core.Bool.{Bool, true, false, _&&_, _||_, and-false}
 use mathlib.Core.List.{List, [], _∷_, _++_, append-assoc}
 use mathlib.Core.Logic.{_⊎_}
 use mathlib.Core.Path.{_≡_, refl, sym, _∙_, ap, subst}
@@ -154,11 +154,7 @@ walked-referring {p} (chr u v e c n b r) =
 across : (u v : List ℕ) → 0 < length u → contains AR u ≡ false → starts (ascii "#") v ≡ false → starts AR (u ++ v) ≡ false
 unfolding contains starts
 across [] v h n a = absurd (let z : 0 < 0 = h in omega arith)
-across (b ∷ []) v h n a = rw (a, and-no (eqb b 38))
-  where
-    and-no : (b : Bool) → (b && false) ≡ false
-    and-no true = refl
-    and-no false = refl
+across (b ∷ []) v h n a = rw (a, and-false (eqb b 38))
 across (b ∷ d ∷ u) v h n a = or-false-left (eqb b 38 && (eqb d 35 && true)) (contains AR (d ∷ u)) n
 
 no-hash : (w : List ℕ) → starts AR w ≡ true → starts (ascii "#") w ≡ false
