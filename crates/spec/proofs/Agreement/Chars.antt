@@ -17,9 +17,9 @@ use Rattle.spec.specs.Reading.Refusals.{Refusal}
 use Rattle.spec.specs.Reading.Utf8.{decode1}
 use Rattle.spec.proofs.Agreement.Reads.{Took, Reads, Next, Leads}
 use Rattle.spec.proofs.Agreement.Signs.{kind, Class}
-use Rattle.spec.proofs.Base.Tests.{T→true, true→T, decide, leb-true, leb-no, leb-false}
+use Rattle.spec.proofs.Base.Tests.{T→true, true→T, decide, leb-true, leb-no}
 use Rattle.spec.proofs.Characters.Text.{text-after}
-use Rattle.spec.proofs.Characters.Utf8.{encode-nonempty, encode-1, encode-2, encode-3, encode-4, decode-1, decode-encode, decode-read, Read, char-point}
+use Rattle.spec.proofs.Characters.Utf8.{encode-nonempty, encode-1, encode-2, encode-3, encode-4, decode-1, decode-encode, decode-read, Read, char-point, Row, row-1, row-2, row-3, row-4, row-of}
 
 -- a character has a byte or more
 pub ch-some : {p : ℕ → Bool} (u : List ℕ) → Ch p u → 0 < length u
@@ -31,22 +31,16 @@ sign c = pick (ltb c 128) c 128
 
 pub kind-encode : (c : ℕ) (v : List ℕ) → kind (encode c ++ v) ≡ sign c
 unfolding kind
-kind-encode c v = by-1 (decide (ltb c 128))
+kind-encode c v = go (row-of c)
   where
-    high : (a : ℕ) (w : List ℕ) → 128 ≤ a → ltb c 128 ≡ false → encode c ≡ a ∷ w → kind (encode c ++ v) ≡ sign c
-    high a w h f e = rw (e, leb-no (suc a) 128 (omega arith), f)
+    high : (a : ℕ) (w : List ℕ) → 128 ≤ a → 128 ≤ c → encode c ≡ a ∷ w → kind (encode c ++ v) ≡ sign c
+    high a w h l e = rw (e, leb-no (suc a) 128 (omega arith), leb-no (suc c) 128 (omega arith))
 
-    by-3 : ltb c 128 ≡ false → (ltb c 0x10000 ≡ true) ⊎ (ltb c 0x10000 ≡ false) → 0x800 ≤ c → kind (encode c ++ v) ≡ sign c
-    by-3 f (Logic.inl e) h = high (0xE0 + c / 4096) _ (omega arith) f (encode-3 c h (leb-true (suc c) 0x10000 e))
-    by-3 f (Logic.inr e) h = let g : 0x10000 < suc c = leb-false (suc c) 0x10000 e in high (0xF0 + c / 262144) _ (omega arith) f (encode-4 c (omega arith))
-
-    by-2 : ltb c 128 ≡ false → (ltb c 0x800 ≡ true) ⊎ (ltb c 0x800 ≡ false) → 0x80 ≤ c → kind (encode c ++ v) ≡ sign c
-    by-2 f (Logic.inl e) h = high (0xC0 + c / 64) _ (omega arith) f (encode-2 c h (leb-true (suc c) 0x800 e))
-    by-2 f (Logic.inr e) h = let g : 0x800 < suc c = leb-false (suc c) 0x800 e in by-3 f (decide (ltb c 0x10000)) (omega arith)
-
-    by-1 : (ltb c 128 ≡ true) ⊎ (ltb c 128 ≡ false) → kind (encode c ++ v) ≡ sign c
-    by-1 (Logic.inl e) = rw (encode-1 c (leb-true (suc c) 128 e))
-    by-1 (Logic.inr e) = let g : 128 < suc c = leb-false (suc c) 128 e in by-2 e (decide (ltb c 0x800)) (omega arith)
+    go : Row c → kind (encode c ++ v) ≡ sign c
+    go (row-1 g) = rw (encode-1 c g)
+    go (row-2 h g) = high (0xC0 + c / 64) _ (omega arith) h (encode-2 c h g)
+    go (row-3 h g) = high (0xE0 + c / 4096) _ (omega arith) (omega arith) (encode-3 c h g)
+    go (row-4 h) = high (0xF0 + c / 262144) _ (omega arith) (omega arith) (encode-4 c h)
 
 pub begins-ch : (p : ℕ → Bool) (u v : List ℕ) → Ch p u → begins p (u ++ v) ≡ true
 unfolding begins

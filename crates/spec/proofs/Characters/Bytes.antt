@@ -12,7 +12,7 @@ use Rattle.spec.specs.Grammar.Languages.{Ch, inl, inr, Star, end, more, 
 use Rattle.spec.specs.Grammar.Utf8.{encode}
 use Rattle.spec.specs.Reading.Utf8.{tail}
 use Rattle.spec.proofs.Base.Tests.{T→true, true→T, false→no, decide, leb-yes, leb-true, leb-false, eqb-yes, eqb-no, and-left, and-right, within-lo, not-true}
-use Rattle.spec.proofs.Characters.Utf8.{encode-1, encode-2, encode-3, encode-4, tail-yes}
+use Rattle.spec.proofs.Characters.Utf8.{encode-1, encode-2, encode-3, encode-4, tail-yes, Row, row-1, row-2, row-3, row-4, row-of}
 
 -- bytes that are all above ASCII
 abbrev pub all-high : List ℕ → Bool
@@ -20,17 +20,16 @@ all-high [] = true
 all-high (b ∷ bs) = leb 128 b && all-high bs
 
 pub high-encode : (c : ℕ) → 128 ≤ c → T (all-high (encode c))
-high-encode c h = by-2 (decide (ltb c 0x800))
+high-encode c l = go (row-of c)
   where
-    by-3 : 0x800 ≤ c → (ltb c 0x10000 ≡ true) ⊎ (ltb c 0x10000 ≡ false) → T (all-high (encode c))
-    by-3 h (Logic.inl e) = rw (encode-3 c h (leb-true (suc c) 0x10000 e), leb-yes 128 (0xE0 + c / 4096) (omega arith), leb-yes 128 (0x80 + c / 64 % 64) (omega arith), leb-yes 128 (0x80 + c % 64) (omega arith)) tt
-    by-3 h (Logic.inr e) =
-        let g : 0x10000 < suc c = leb-false (suc c) 0x10000 e in
-        rw (encode-4 c (omega arith), leb-yes 128 (0xF0 + c / 262144) (omega arith), leb-yes 128 (0x80 + c / 4096 % 64) (omega arith), leb-yes 128 (0x80 + c / 64 % 64) (omega arith), leb-yes 128 (0x80 + c % 64) (omega arith)) tt
+    tail-high : (n : ℕ) → leb 128 (0x80 + n % 64) ≡ true
+    tail-high n = leb-yes 128 (0x80 + n % 64) (omega arith)
 
-    by-2 : (ltb c 0x800 ≡ true) ⊎ (ltb c 0x800 ≡ false) → T (all-high (encode c))
-    by-2 (Logic.inl e) = rw (encode-2 c h (leb-true (suc c) 0x800 e), leb-yes 128 (0xC0 + c / 64) (omega arith), leb-yes 128 (0x80 + c % 64) (omega arith)) tt
-    by-2 (Logic.inr e) = let g : 0x800 < suc c = leb-false (suc c) 0x800 e in by-3 (omega arith) (decide (ltb c 0x10000))
+    go : Row c → T (all-high (encode c))
+    go (row-1 g) = absurd (omega arith)
+    go (row-2 h g) = rw (encode-2 c h g, leb-yes 128 (0xC0 + c / 64) (omega arith), tail-high c) tt
+    go (row-3 h g) = rw (encode-3 c h g, leb-yes 128 (0xE0 + c / 4096) (omega arith), tail-high (c / 64), tail-high c) tt
+    go (row-4 h) = rw (encode-4 c h, leb-yes 128 (0xF0 + c / 262144) (omega arith), tail-high (c / 4096), tail-high (c / 64), tail-high c) tt
 
 pub high-head : (b : ℕ) (bs : List ℕ) → T (all-high (b ∷ bs)) → 128 ≤ b
 high-head b bs h = leb-true 128 b (and-left (leb 128 b) (all-high bs) (T→true (all-high (b ∷ bs)) h))
@@ -139,21 +138,13 @@ pub record Bytes (c : ℕ) : Type 0 where
   pub tailed : all-tails tails ≡ true
 
 pub bytes-of : (c : ℕ) → Bytes c
-bytes-of c = by-1 (decide (ltb c 0x80))
+bytes-of c = go (row-of c)
   where
-    by-3 : 0x800 ≤ c → (ltb c 0x10000 ≡ true) ⊎ (ltb c 0x10000 ≡ false) → Bytes c
-    by-3 h (Logic.inl e) = record { head = _; tails = _; are = encode-3 c h (leb-true (suc c) 0x10000 e); tailed = rw (tail-yes (c / 64), tail-yes c) }
-    by-3 h (Logic.inr e) =
-        let g : 0x10000 < suc c = leb-false (suc c) 0x10000 e in
-        record { head = _; tails = _; are = encode-4 c (omega arith); tailed = rw (tail-yes (c / 4096), tail-yes (c / 64), tail-yes c) }
-
-    by-2 : 0x80 ≤ c → (ltb c 0x800 ≡ true) ⊎ (ltb c 0x800 ≡ false) → Bytes c
-    by-2 h (Logic.inl e) = record { head = _; tails = _; are = encode-2 c h (leb-true (suc c) 0x800 e); tailed = rw (tail-yes c) }
-    by-2 h (Logic.inr e) = let g : 0x800 < suc c = leb-false (suc c) 0x800 e in by-3 (omega arith) (decide (ltb c 0x10000))
-
-    by-1 : (ltb c 0x80 ≡ true) ⊎ (ltb c 0x80 ≡ false) → Bytes c
-    by-1 (Logic.inl e) = record { head = c; tails = []; are = encode-1 c (leb-true (suc c) 0x80 e); tailed = refl }
-    by-1 (Logic.inr e) = let g : 0x80 < suc c = leb-false (suc c) 0x80 e in by-2 (omega arith) (decide (ltb c 0x800))
+    go : Row c → Bytes c
+    go (row-1 g) = record { head = c; tails = []; are = encode-1 c g; tailed = refl }
+    go (row-2 h g) = record { head = _; tails = _; are = encode-2 c h g; tailed = rw (tail-yes c) }
+    go (row-3 h g) = record { head = _; tails = _; are = encode-3 c h g; tailed = rw (tail-yes (c / 64), tail-yes c) }
+    go (row-4 h) = record { head = _; tails = _; are = encode-4 c h; tailed = rw (tail-yes (c / 4096), tail-yes (c / 64), tail-yes c) }
 
 -- no tail is an ASCII sign
 pub tails-avoid : (a : ℕ) (x : List ℕ) → a < 128 → all-tails x ≡ true → avoids a x ≡ true

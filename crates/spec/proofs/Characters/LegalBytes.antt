@@ -2,11 +2,11 @@
 use mathlib.Core.Logic
 use mathlib.Core.Bool.{true, false, _&&_, _||_, not, true≢false, or-true}
 use mathlib.Core.List.{List, [], _∷_, _++_}
-use mathlib.Core.Logic.{_⊎_}
+use mathlib.Core.Logic.{_⊎_, ⊎-elim}
 use mathlib.Core.Path.{_≡_, refl, sym, _∙_, ap}
 use Prim.Native.Nat.{ℕ, suc, _+_, _/_, _%_, _≤_, _<_}
 use native.Mathlib.Omega.{arith}
-use lib.Dec.{leb, ltb, eqb}
+use lib.Dec.{leb, eqb}
 use Rattle.spec.specs.Basics.{within}
 use Rattle.spec.specs.Grammar.Characters.{xml-char}
 use Rattle.spec.specs.Grammar.Languages.{one-of}
@@ -16,7 +16,7 @@ use Rattle.spec.specs.Reading.Utf8.{tail}
 use Rattle.spec.specs.Reading.Wellformed.{illegal-here}
 use Rattle.spec.proofs.Agreement.Signs.{below, below-at}
 use Rattle.spec.proofs.Base.Tests.{alike, alike-same, decide, leb-no, leb-true, leb-false, eqb-yes, eqb-no, eqb-true, within-yes, within-low, within-high, within-lo, within-hi}
-use Rattle.spec.proofs.Characters.Utf8.{encode-1, encode-2, encode-3, encode-4, scalar-cases}
+use Rattle.spec.proofs.Characters.Utf8.{encode-1, encode-2, encode-3, encode-4, scalar-cases, Row, row-1, row-2, row-3, row-4, row-of}
 
 -- the same, where no byte below 128 comes first: only U+FFFE and U+FFFF are left
 high-here : (b : ℕ) (w : List ℕ) → 128 ≤ b → (b ≡ 0xEF → ⊥) → illegal-here (b ∷ w) ≡ false
@@ -68,15 +68,8 @@ three-here c v h g s = by-range (decide (leb 0xFFFE c))
     d : ℕ
     d = 0x80 + c % 64
 
-    low : leb 0xFFFE c ≡ false → c < 0xFFFE
-    low e = leb-false 0xFFFE c e
-
-    legal : leb 0xFFFE c ≡ false → xml-char c ≡ true
-    legal e = go (scalar-cases c s)
-      where
-        go : (c ≤ 0xD7FF) ⊎ ((0xE000 ≤ c) × (c ≤ 0x10FFFF)) → xml-char c ≡ true
-        go (Logic.inl l) = low-char c (omega arith) l
-        go (Logic.inr (l, m)) = let k = low e in mid-char c l (omega arith)
+    legal : c < 0xFFFE → xml-char c ≡ true
+    legal k = ⊎-elim (λ l. low-char c (omega arith) l) (λ l. mid-char c (l .0) (omega arith)) (scalar-cases c s)
 
     not-here : (t : ℕ) → 0xBE ≤ t → c < 0xFFFE → (eqb a 0xEF && (eqb b 0xBF && (eqb d t && true))) ≡ false
     not-here t m k = go (decide (eqb a 0xEF)) (decide (eqb b 0xBF))
@@ -90,7 +83,7 @@ three-here c v h g s = by-range (decide (leb 0xFFFE c))
             rw (x, y, eqb-no d t (λ e. omega arith))
 
     by-range : (leb 0xFFFE c ≡ true) ⊎ (leb 0xFFFE c ≡ false) → illegal-here (a ∷ b ∷ d ∷ v) ≡ not (xml-char c)
-    by-range (Logic.inr e) = rw (leb-no (suc a) 0x20 (omega arith), not-here 0xBE (omega arith) (low e), not-here 0xBF (omega arith) (low e), legal e)
+    by-range (Logic.inr e) = let k = leb-false 0xFFFE c e in rw (leb-no (suc a) 0x20 (omega arith), not-here 0xBE (omega arith) k, not-here 0xBF (omega arith) k, legal k)
     by-range (Logic.inl e) =
         let k : 0xFFFE ≤ c = leb-true 0xFFFE c e in
         let f : illegal-here (a ∷ b ∷ d ∷ v) ≡ (eqb d 0xBE && true || eqb d 0xBF && true) = rw (leb-no (suc a) 0x20 (omega arith), eqb-yes a 0xEF (omega arith), eqb-yes b 0xBF (omega arith)) in
@@ -102,26 +95,13 @@ three-here c v h g s = by-range (decide (leb 0xFFFE c))
 
 -- on a character's bytes the test says whether it is a Char
 pub legal-here : (c : ℕ) (v : List ℕ) → scalar c ≡ true → illegal-here (encode c ++ v) ≡ not (xml-char c)
-legal-here c v s = by-1 (decide (ltb c 0x80))
+legal-here c v s = go (row-of c)
   where
-    by-3 : 0x800 ≤ c → (ltb c 0x10000 ≡ true) ⊎ (ltb c 0x10000 ≡ false) → illegal-here (encode c ++ v) ≡ not (xml-char c)
-    by-3 h (Logic.inl e) = let g = leb-true (suc c) 0x10000 e in rw (encode-3 c h g) (three-here c v h g s)
-    by-3 h (Logic.inr e) = let g = leb-false (suc c) 0x10000 e in top (scalar-cases c s)
-      where
-        top : (c ≤ 0xD7FF) ⊎ ((0xE000 ≤ c) × (c ≤ 0x10FFFF)) → illegal-here (encode c ++ v) ≡ not (xml-char c)
-        top (Logic.inl l) = absurd (let g = leb-false (suc c) 0x10000 e in omega arith)
-        top (Logic.inr (l, m)) =
-            let g = leb-false (suc c) 0x10000 e in
-            rw (encode-4 c (omega arith)) (high-here (0xF0 + c / 262144) _ (omega arith) (λ e. omega arith) ∙ ap not (sym (high-char c (omega arith) m)))
-
-    by-2 : 0x80 ≤ c → (ltb c 0x800 ≡ true) ⊎ (ltb c 0x800 ≡ false) → illegal-here (encode c ++ v) ≡ not (xml-char c)
-    by-2 h (Logic.inl e) =
-        let g = leb-true (suc c) 0x800 e in
-        rw (encode-2 c h g) (high-here (0xC0 + c / 64) _ (omega arith) (λ e. omega arith) ∙ ap not (sym (low-char c (omega arith) (omega arith))))
-    by-2 h (Logic.inr e) = let g = leb-false (suc c) 0x800 e in by-3 (omega arith) (decide (ltb c 0x10000))
-
-    by-1 : (ltb c 0x80 ≡ true) ⊎ (ltb c 0x80 ≡ false) → illegal-here (encode c ++ v) ≡ not (xml-char c)
-    by-1 (Logic.inl e) =
-        let g = leb-true (suc c) 0x80 e in
+    go : Row c → illegal-here (encode c ++ v) ≡ not (xml-char c)
+    go (row-1 g) =
         rw (encode-1 c g) (ascii-here c v g ∙ alike-same (illegal-here (c ∷ [])) (not (xml-char c)) (below-at 128 (λ c. alike (illegal-here (c ∷ [])) (not (xml-char c))) ascii-alike c g))
-    by-1 (Logic.inr e) = let g = leb-false (suc c) 0x80 e in by-2 (omega arith) (decide (ltb c 0x800))
+    go (row-2 h g) = rw (encode-2 c h g) (high-here (0xC0 + c / 64) _ (omega arith) (λ e. omega arith) ∙ ap not (sym (low-char c (omega arith) (omega arith))))
+    go (row-3 h g) = rw (encode-3 c h g) (three-here c v h g s)
+    go (row-4 h) =
+        let m : c ≤ 0x10FFFF = ⊎-elim (λ l. omega arith) (λ l. l .1) (scalar-cases c s) in
+        rw (encode-4 c h) (high-here (0xF0 + c / 262144) _ (omega arith) (λ e. omega arith) ∙ ap not (sym (high-char c h m)))

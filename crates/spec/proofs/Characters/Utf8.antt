@@ -34,6 +34,28 @@ pub encode-4 : (c : ℕ) → 0x10000 ≤ c → encode c ≡ (0xF0 + c / 262144) 
 unfolding encode
 encode-4 c h = rw (leb-no (suc c) 0x80 (omega arith), leb-no (suc c) 0x800 (omega arith), leb-no (suc c) 0x10000 (omega arith))
 
+-- the row of a code point
+pub data Row (c : ℕ) : Type 0 where
+  row-1 : c < 0x80 → Row c
+  row-2 : 0x80 ≤ c → c < 0x800 → Row c
+  row-3 : 0x800 ≤ c → c < 0x10000 → Row c
+  row-4 : 0x10000 ≤ c → Row c
+
+pub row-of : (c : ℕ) → Row c
+row-of c = go (decide (ltb c 0x80)) (decide (ltb c 0x800)) (decide (ltb c 0x10000))
+  where
+    Below : ℕ → Type 0
+    Below n = (ltb c n ≡ true) ⊎ (ltb c n ≡ false)
+
+    at-least : (n : ℕ) → ltb c n ≡ false → n ≤ c
+    at-least n e = let h : n < suc c = leb-false (suc c) n e in omega arith
+
+    go : Below 0x80 → Below 0x800 → Below 0x10000 → Row c
+    go (inl e) x y = row-1 (leb-true (suc c) 0x80 e)
+    go (inr d) (inl e) y = row-2 (at-least 0x80 d) (leb-true (suc c) 0x800 e)
+    go (inr _) (inr d) (inl e) = row-3 (at-least 0x800 d) (leb-true (suc c) 0x10000 e)
+    go (inr _) (inr _) (inr d) = row-4 (at-least 0x10000 d)
+
 -- section 4: what the bytes say, by the alternatives in order
 module _ (a b c d : ℕ) where
   pub decode4-1 : a < 0x80 → decode4 a b c d ≡ point a 1
@@ -163,25 +185,13 @@ decode-4 c v h g =
 
 -- the bytes of a scalar value read back as it
 pub decode-encode : (c : ℕ) (v : List ℕ) → scalar c ≡ true → decode1 (encode c ++ v) ≡ point c (length (encode c))
-decode-encode c v s = go (decide (ltb c 0x10000)) (decide (ltb c 0x800)) (decide (ltb c 0x80))
+decode-encode c v s = go (row-of c)
   where
-    Below : ℕ → Type 0
-    Below n = (ltb c n ≡ true) ⊎ (ltb c n ≡ false)
-
-    go : Below 0x10000 → Below 0x800 → Below 0x80 → decode1 (encode c ++ v) ≡ point c (length (encode c))
-    go (inr d) x y =
-        let h : 0x10000 < suc c = leb-false (suc c) 0x10000 d in
-        let g : c ≤ 0x10FFFF = ⊎-elim (λ m. omega arith) (λ m. m .1) (scalar-cases c s) in
-        rw (encode-4 c (omega arith)) (decode-4 c v (omega arith) g)
-    go (inl e) (inr d) y =
-        let h : 0x800 < suc c = leb-false (suc c) 0x800 d in
-        let g : c < 0x10000 = leb-true (suc c) 0x10000 e in
-        rw (encode-3 c (omega arith) g) (decode-3 c v (omega arith) g (scalar-cases c s))
-    go (inl f) (inl e) (inr d) =
-        let h : 0x80 < suc c = leb-false (suc c) 0x80 d in
-        let g : c < 0x800 = leb-true (suc c) 0x800 e in
-        rw (encode-2 c (omega arith) g) (decode-2 c v (omega arith) g)
-    go (inl f) (inl g) (inl e) = let g : c < 0x80 = leb-true (suc c) 0x80 e in rw (encode-1 c g) (decode-1 c v g)
+    go : Row c → decode1 (encode c ++ v) ≡ point c (length (encode c))
+    go (row-1 g) = rw (encode-1 c g) (decode-1 c v g)
+    go (row-2 h g) = rw (encode-2 c h g) (decode-2 c v h g)
+    go (row-3 h g) = rw (encode-3 c h g) (decode-3 c v h g (scalar-cases c s))
+    go (row-4 h) = let g : c ≤ 0x10FFFF = ⊎-elim (λ m. omega arith) (λ m. m .1) (scalar-cases c s) in rw (encode-4 c h) (decode-4 c v h g)
 
 pub no-point≢point : {c k : ℕ} → no-point ≡ point c k → ⊥
 no-point≢point e = let z : _≡_ {A = ℕ} 0 1 = cc in omega arith
