@@ -129,17 +129,23 @@ one-sign a b e = eqb-true b a (sym (or-false (eqb b a)) ∙ e)
 pub two-signs : (a d b : ℕ) → among (a ∷ d ∷ []) b ≡ true → (b ≡ a) ⊎ (b ≡ d)
 two-signs a d b e = ⊎-elim (λ f. inl (eqb-true b a f)) (λ f. inr (one-sign d b f)) (or-cases (eqb b a) (among (d ∷ []) b) e)
 
+-- what holds of each sign of a word
+abbrev pub each-of : (ℕ → Bool) → List ℕ → Bool
+each-of q [] = true
+each-of q (b ∷ s) = q b && each-of q s
+
+pub each-at : (q : ℕ → Bool) (s : List ℕ) → each-of q s ≡ true → (a : ℕ) → among s a ≡ true → q a ≡ true
+each-at q [] h a e = absurd (true≢false (sym e))
+each-at q (b ∷ s) h a e =
+    ⊎-elim (λ f. ap q (eqb-true a b f) ∙ and-left (q b) (each-of q s) h) (λ f. each-at q s (and-right (q b) (each-of q s) h) a f) (or-cases (eqb a b) (among s a) e)
+
 -- the signs of one word are among those of another: computed
 abbrev pub all-among : List ℕ → List ℕ → Bool
-all-among [] s = true
-all-among (a ∷ t) s = among s a && all-among t s
+all-among t s = each-of (among s) t
 
--- what is none of the other's signs is none of its own, and what is one of its own is one of the other's
-pub none-sub : (t s : List ℕ) → T (all-among t s) → (b : ℕ) → among s b ≡ false → among t b ≡ false
-none-sub [] s h b n = refl
-none-sub (a ∷ t) s h b n =
-    let i : (among s a && all-among t s) ≡ true = T→true (all-among (a ∷ t) s) h in
-    rw (eqb-no b a (λ e. true≢false (sym (and-left (among s a) (all-among t s) i) ∙ ap (among s) (sym e) ∙ n))) (none-sub t s (true→T (all-among t s) (and-right (among s a) (all-among t s) i)) b n)
-
+-- then what is one of its own is one of the other's, and what is none of the other's is none of its own
 pub among-sub : (t s : List ℕ) → T (all-among t s) → (b : ℕ) → among t b ≡ true → among s b ≡ true
-among-sub t s h b e = ⊎-elim (λ y. y) (λ n. absurd (true≢false (sym e ∙ none-sub t s h b n))) (decide (among s b))
+among-sub t s h b e = each-at (among s) t (T→true (all-among t s) h) b e
+
+pub none-sub : (t s : List ℕ) → T (all-among t s) → (b : ℕ) → among s b ≡ false → among t b ≡ false
+none-sub t s h b n = no→false (among t b) (λ x. true≢false (sym (among-sub t s h b (T→true (among t b) x)) ∙ n))

@@ -8,10 +8,10 @@ use Prim.Native.Nat.{ℕ, suc, _+_, _/_, _%_, _≤_, _<_}
 use native.Mathlib.Omega.{arith}
 use lib.Dec.{T, leb, ltb, eqb}
 use lib.ListN.{length, length-append}
-use Rattle.spec.specs.Grammar.Languages.{Ch, inl, inr, Star, end, more, any}
+use Rattle.spec.specs.Grammar.Languages.{Ch, inl, inr, Star, end, more, any, among}
 use Rattle.spec.specs.Grammar.Utf8.{encode}
 use Rattle.spec.specs.Reading.Utf8.{tail}
-use Rattle.spec.proofs.Base.Tests.{T→true, true→T, false→no, decide, leb-yes, leb-true, leb-false, eqb-yes, eqb-no, and-left, and-right, within-lo, not-true}
+use Rattle.spec.proofs.Base.Tests.{T→true, true→T, false→no, decide, leb-yes, leb-true, leb-false, eqb-yes, eqb-no, and-left, and-right, within-lo, not-true, no→false}
 use Rattle.spec.proofs.Characters.Utf8.{encode-1, encode-2, encode-3, encode-4, tail-yes, Row, row-1, row-2, row-3, row-4, row-of}
 
 -- bytes that are all above ASCII
@@ -37,6 +37,18 @@ high-head b bs h = leb-true 128 b (and-left (leb 128 b) (all-high bs) (T→true 
 pub high-tail : (b : ℕ) (bs : List ℕ) → T (all-high (b ∷ bs)) → T (all-high bs)
 high-tail b bs h = true→T (all-high bs) (and-right (leb 128 b) (all-high bs) (T→true (all-high (b ∷ bs)) h))
 
+-- a character is one ASCII byte, or bytes above ASCII
+pub data Sized {p : ℕ → Bool} {x : List ℕ} (c : Ch p x) : Type 0 where
+  low : c .char < 128 → x ≡ c .char ∷ [] → Sized c
+  high : 128 ≤ c .char → T (all-high x) → Sized c
+
+pub sized : {p : ℕ → Bool} {x : List ℕ} (c : Ch p x) → Sized c
+sized c = go (decide (ltb (c .char) 128))
+  where
+    go : (ltb (c .char) 128 ≡ true) ⊎ (ltb (c .char) 128 ≡ false) → Sized c
+    go (Logic.inl t) = let l = leb-true (suc (c .char)) 128 t in low l (c .bytes ∙ encode-1 (c .char) l)
+    go (Logic.inr t) = let g : 128 < suc (c .char) = leb-false (suc (c .char)) 128 t in high (omega arith) (rw (c .bytes) (high-encode (c .char) (omega arith)))
+
 -- an ASCII byte stands after bytes above ASCII, not among them
 pass : (x y u : List ℕ) (a : ℕ) (v : List ℕ) → T (all-high x) → a < 128 → x ++ y ≡ u ++ a ∷ v → (z : List ℕ) × (u ≡ x ++ z) × (y ≡ z ++ a ∷ v)
 pass [] y u a v h l e = (u, refl, e)
@@ -53,23 +65,19 @@ pass (b ∷ x) y (d ∷ u) a v h l e =
 -- what stands before an ASCII byte of a text is a text
 pub text-front : {w : List ℕ} (u : List ℕ) (a : ℕ) (v : List ℕ) → a < 128 → w ≡ u ++ a ∷ v → Star (Ch any) w → Star (Ch any) u
 text-front u a v l e (end f) = let n : length (u ++ a ∷ v) ≡ 0 = ap length (sym e ∙ f) in absurd (omega (arith, length-append u (a ∷ v)))
-text-front u a v l e (more x y f c s) = go (decide (ltb (c .char) 128)) (λ z g. text-front z a v l g s)
+text-front u a v l e (more x y f c s) = go (sized c) (λ z g. text-front z a v l g s)
   where
-    go : (ltb (c .char) 128 ≡ true) ⊎ (ltb (c .char) 128 ≡ false) → ((z : List ℕ) → y ≡ z ++ a ∷ v → Star (Ch any) z) → Star (Ch any) u
-    go (Logic.inl t) ih = ascii-case u (sym (ap (λ (x : List ℕ). x ++ y) (c .bytes ∙ encode-1 (c .char) (leb-true (suc (c .char)) 128 t))) ∙ sym f ∙ e)
+    go : Sized c → ((z : List ℕ) → y ≡ z ++ a ∷ v → Star (Ch any) z) → Star (Ch any) u
+    go (low t is) ih = ascii-case u (sym (ap (λ (x : List ℕ). x ++ y) is) ∙ sym f ∙ e)
       where
         ascii-case : (u : List ℕ) → c .char ∷ y ≡ u ++ a ∷ v → Star (Ch any) u
         ascii-case [] g = end refl
         ascii-case (b ∷ u) g =
             let p : c .char ≡ b = cc in
             let q : y ≡ u ++ a ∷ v = cc in
-            let k : x ≡ b ∷ [] = c .bytes ∙ encode-1 (c .char) (leb-true (suc (c .char)) 128 t) ∙ ap (λ (z : ℕ). z ∷ []) p in
+            let k : x ≡ b ∷ [] = is ∙ ap (λ (z : ℕ). z ∷ []) p in
             more x u (sym (ap (λ (z : List ℕ). z ++ u) k)) c (ih u q)
-    go (Logic.inr t) ih =
-        let g : 128 < suc (c .char) = leb-false (suc (c .char)) 128 t in
-        let h : T (all-high x) = rw (c .bytes) (high-encode (c .char) (omega arith)) in
-        let (z, p, q) = pass x y u a v h l (sym f ∙ e) in
-        more x z p c (ih z q)
+    go (high t h) ih = let (z, p, q) = pass x y u a v h l (sym f ∙ e) in more x z p c (ih z q)
 
 -- no byte is a
 abbrev pub avoids : ℕ → List ℕ → Bool
@@ -90,20 +98,27 @@ pub avoids-high : (a : ℕ) (u : List ℕ) → a < 128 → T (all-high u) → av
 avoids-high a [] l h = refl
 avoids-high a (b ∷ u) l h = let g : 128 ≤ b = high-head b u h in rw (eqb-no b a (λ e. omega arith), avoids-high a u l (high-tail b u h))
 
+-- a text that has none of some signs
+abbrev pub avoids-all : List ℕ → List ℕ → Bool
+avoids-all s [] = true
+avoids-all s (b ∷ x) = not (among s b) && avoids-all s x
+
+pub avoids-each : (s x : List ℕ) → ((a : ℕ) → among s a ≡ true → avoids a x ≡ true) → avoids-all s x ≡ true
+avoids-each s [] h = refl
+avoids-each s (b ∷ x) h =
+    rw (no→false (among s b) (λ t. true≢false (sym (eqb-yes b b refl) ∙ avoids-head b b x (h b (T→true (among s b) t))))) (avoids-each s x (λ a m. avoids-tail a b x (h a m)))
+
 -- characters of a class without a have no byte a, and the other way round
 pub class-avoids : (p : ℕ → Bool) (a : ℕ) → a < 128 → p a ≡ false → {u : List ℕ} → Star (Ch p) u → avoids a u ≡ true
 class-avoids p a l n (end e) = rw e
-class-avoids p a l n (more x y e c s) =
-    rw (e, avoids-append a x y, class-avoids p a l n s, first (decide (ltb (c .char) 128)))
+class-avoids p a l n (more x y e c s) = rw (e, avoids-append a x y, class-avoids p a l n s, first (sized c))
   where
     differs : c .char ≡ a → ⊥
     differs f = false→no (p a) n (subst (λ (k : ℕ). T (p k)) f (c .in-class))
 
-    first : (ltb (c .char) 128 ≡ true) ⊎ (ltb (c .char) 128 ≡ false) → avoids a x ≡ true
-    first (Logic.inl t) = rw (c .bytes, encode-1 (c .char) (leb-true (suc (c .char)) 128 t), eqb-no (c .char) a differs)
-    first (Logic.inr t) =
-        let g : 128 < suc (c .char) = leb-false (suc (c .char)) 128 t in
-        rw (c .bytes) (avoids-high a (encode (c .char)) l (high-encode (c .char) (omega arith)))
+    first : Sized c → avoids a x ≡ true
+    first (low t is) = rw (is, eqb-no (c .char) a differs)
+    first (high t h) = avoids-high a x l h
 
 pub avoids-char : (q p : ℕ → Bool) (a : ℕ) → a < 128 → ((c : ℕ) → T (q c) → (c ≡ a → ⊥) → T (p c)) → {u : List ℕ} → Ch q u → avoids a u ≡ true → Ch p u
 avoids-char q p a l in-p c h = record { char = c .char; is-scalar = c .is-scalar; in-class = in-p (c .char) (c .in-class) differs; bytes = c .bytes }

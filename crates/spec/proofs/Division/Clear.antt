@@ -2,12 +2,11 @@
 use mathlib.Core.Logic
 use mathlib.Core.Bool.{Bool, true, false, _&&_, _||_, not, true≢false, or-false}
 use mathlib.Core.List.{List, [], _∷_, _++_, append-assoc}
-use mathlib.Core.Logic.{_⊎_}
 use mathlib.Core.Path.{_≡_, refl, sym, _∙_, ap, subst}
 use Prim.Native.Nat.{ℕ, zero, suc, _+_, _-_, _≤_, _<_}
 use Prim.Native.String.{String}
 use native.Mathlib.Omega.{arith}
-use lib.Dec.{T, ltb, eqb}
+use lib.Dec.{T, eqb}
 use lib.ListN.{length, take, drop, length-append}
 use lib.Seq.{take-at, drop-append-seam}
 use Rattle.spec.specs.Basics.{pick}
@@ -16,7 +15,6 @@ use Rattle.spec.specs.Grammar.Division.{Kind, element, attlist, entity, 
 use Rattle.spec.specs.Grammar.Languages.{Lang, lit, ascii, Ch, _·_, _∣_, inl, inr, Star, end, more, one-of, none-of}
 use Rattle.spec.specs.Grammar.Literals.{SystemLiteral}
 use Rattle.spec.specs.Grammar.Names.{Dialect, PEReference}
-use Rattle.spec.specs.Grammar.Utf8.{encode}
 use Rattle.spec.specs.Premise.{quiet, bare, premised}
 use Rattle.spec.specs.Reading.Dtd.{has-pe-reference}
 use Rattle.spec.specs.Reading.Readers.{starts, contains, before}
@@ -24,9 +22,8 @@ use Rattle.spec.specs.Reading.Scan.{Place, at, nowhere, later, subset-op
 use Rattle.spec.proofs.Agreement.Holds.{starts-cut}
 use Rattle.spec.proofs.Agreement.Tame.{Tame, Within, plain-bytes, within-cat, within-either, within-lit, within-none, within-s, within-s?, within-name, within-element, every-plain}
 use Rattle.spec.proofs.Agreement.Words.{contains-at}
-use Rattle.spec.proofs.Base.Tests.{T→true, decide, leb-true, leb-false, eqb-yes, eqb-no, and-right, none-sub, not-true, and-left, both-left, both-right}
-use Rattle.spec.proofs.Characters.Bytes.{all-high, high-head, high-tail, high-encode, avoids, class-avoids, avoids-head, avoids-tail}
-use Rattle.spec.proofs.Characters.Utf8.{encode-1}
+use Rattle.spec.proofs.Base.Tests.{T→true, eqb-yes, eqb-no, and-right, none-sub, not-true, and-left, both-left, both-right}
+use Rattle.spec.proofs.Characters.Bytes.{all-high, high-head, high-tail, avoids, class-avoids, avoids-head, avoids-tail, Sized, low, high, sized}
 use Rattle.spec.proofs.Division.Parts.{Filling, last, next, Premise}
 use Rattle.spec.proofs.Division.Quoting.{paired, quoting}
 use Rattle.spec.proofs.Dtd.Bodies.{del, delimited-del, refers-complete}
@@ -81,13 +78,11 @@ module _ {f : ℕ → List ℕ → Place} (P : Quoting f) where
       (clear-high x (high-tail b x h))
 
   clear-ch : (x : List ℕ) → Ch (none-of "\"'<>[]") x → Clear (f 0) x
-  clear-ch x c = subst (Clear (f 0)) (sym (c .bytes)) (go (decide (ltb (c .char) 128)))
+  clear-ch x c = go (sized c)
     where
-      go : (ltb (c .char) 128 ≡ true) ⊎ (ltb (c .char) 128 ≡ false) → Clear (f 0) (encode (c .char))
-      go (Logic.inl t) =
-          subst (Clear (f 0)) (sym (encode-1 (c .char) (leb-true (suc (c .char)) 128 t)))
-          (clear-cons (c .char) [] (not-true (one-of "\"'<>[]" (c .char)) (T→true (none-of "\"'<>[]" (c .char)) (c .in-class))) clear-none)
-      go (Logic.inr t) = let g : 128 < suc (c .char) = leb-false (suc (c .char)) 128 t in clear-high (encode (c .char)) (high-encode (c .char) (omega arith))
+      go : Sized c → Clear (f 0) x
+      go (low t is) = subst (Clear (f 0)) (sym is) (clear-cons (c .char) [] (not-true (one-of "\"'<>[]" (c .char)) (T→true (none-of "\"'<>[]" (c .char)) (c .in-class))) clear-none)
+      go (high t h) = clear-high x h
 
   pass-inside : (q : ℕ) (x r : List ℕ) → avoids (suc q) x ≡ true → f (suc q) (x ++ r) ≡ later (length x) (f (suc q) r)
   pass-inside q [] r h = later-zero (f (suc q) r)

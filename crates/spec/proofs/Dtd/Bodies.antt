@@ -6,7 +6,7 @@ use mathlib.Core.Logic.{_⊎_}
 use mathlib.Core.Path.{_≡_, refl, sym, _∙_, ap, subst}
 use Prim.Native.Nat.{ℕ, zero, suc, _+_, _≤_, _<_}
 use native.Mathlib.Omega.{arith}
-use lib.Dec.{T, ltb, eqb}
+use lib.Dec.{T, eqb}
 use lib.ListN.{length, take, length-append}
 use lib.Seq.{take-append-seam, take-at}
 use Rattle.spec.specs.Basics.{pick}
@@ -24,10 +24,10 @@ use Rattle.spec.proofs.Agreement.Chars.{begins-ch}
 use Rattle.spec.proofs.Agreement.Reads.{Took, Reads, Next}
 use Rattle.spec.proofs.Agreement.Whole.{Whole}
 use Rattle.spec.proofs.Base.Results.{err-ok, ok-inj, on-ok-ok, past-ok}
-use Rattle.spec.proofs.Base.Tests.{true→T, decide, leb-true, leb-false, eqb-yes, eqb-true, eqb-no, or-cases, and-left, and-right, one-sign, two-signs, none-sub, not-true, T→true, or-false-left, or-false-right}
-use Rattle.spec.proofs.Characters.Bytes.{all-high, high-head, high-tail, high-encode, avoids, avoids-append, avoids-high, class-avoids, avoids-class, text-front, not-one, avoids-head, avoids-tail}
-use Rattle.spec.proofs.Characters.Text.{text-rest, ascii-text, star-one}
-use Rattle.spec.proofs.Characters.Utf8.{encode-1, decode-read, Read}
+use Rattle.spec.proofs.Base.Tests.{true→T, eqb-yes, eqb-true, eqb-no, or-cases, and-left, and-right, one-sign, two-signs, none-sub, not-true, T→true, or-false-left, or-false-right}
+use Rattle.spec.proofs.Characters.Bytes.{all-high, high-head, high-tail, avoids, avoids-append, avoids-high, class-avoids, avoids-class, text-front, not-one, avoids-head, avoids-tail, Sized, low, high, sized}
+use Rattle.spec.proofs.Characters.Text.{text-rest, ascii-text, star-one, reclass}
+use Rattle.spec.proofs.Characters.Utf8.{decode-read, Read}
 
 -- the bytes of a body, by the open quote or 0: no '>' outside quotes, and no quote left open
 unfoldable pub del : ℕ → List ℕ → Bool
@@ -103,18 +103,16 @@ del-literal q p x y l n gt qt s = rw (gt, qt, del-inside q x (suc q ∷ y) (clas
 
 del-item : (x y : List ℕ) → (Ch (none-of "\"'>") ∣ SystemLiteral) x → del 0 (x ++ y) ≡ del 0 y
 unfolding SystemLiteral del
-del-item x y (inl c) = by-size (decide (ltb (c .char) 128))
+del-item x y (inl c) = by-size (sized c)
   where
     small : del 0 ((c .char ∷ []) ++ y) ≡ del 0 y
     small =
         let n : one-of "\"'>" (c .char) ≡ false = not-true (one-of "\"'>" (c .char)) (T→true (none-of "\"'>" (c .char)) (c .in-class)) in
         rw (none-sub (ascii ">") (ascii "\"'>") tt (c .char) n, none-sub (ascii "\"'") (ascii "\"'>") tt (c .char) n)
 
-    by-size : (ltb (c .char) 128 ≡ true) ⊎ (ltb (c .char) 128 ≡ false) → del 0 (x ++ y) ≡ del 0 y
-    by-size (Logic.inl t) = ap (λ (z : List ℕ). del 0 (z ++ y)) (c .bytes ∙ encode-1 (c .char) (leb-true (suc (c .char)) 128 t)) ∙ small
-    by-size (Logic.inr t) =
-        let g : 128 < suc (c .char) = leb-false (suc (c .char)) 128 t in
-        ap (λ (z : List ℕ). del 0 (z ++ y)) (c .bytes) ∙ del-high 0 (encode (c .char)) y (omega arith) (high-encode (c .char) (omega arith))
+    by-size : Sized c → del 0 (x ++ y) ≡ del 0 y
+    by-size (low t is) = ap (λ (z : List ℕ). del 0 (z ++ y)) is ∙ small
+    by-size (high t h) = del-high 0 x y (omega arith) h
 del-item x y (inr (inl l)) =
     let d : List ℕ = l .second .left in
     let e : x ++ y ≡ 34 ∷ (d ++ (34 ∷ y)) =
@@ -177,15 +175,15 @@ del-delimits : (q : ℕ) {u : List ℕ} → q < 128 → Star (Ch any) u → del 
 unfolding del
 del-delimits zero l (end e) h = end e
 del-delimits (suc q) l (end e) h = absurd (true≢false (sym (sym (ap (del (suc q)) e) ∙ h)))
-del-delimits q {u} l (more x y e c s) h = by-size (decide (ltb (c .char) 128)) (λ p k g. del-delimits p k s g)
+del-delimits q {u} l (more x y e c s) h = by-size (sized c) (λ p k g. del-delimits p k s g)
   where
     b : ℕ
     b = c .char
 
-    outside-high : 128 ≤ b → del 0 u ≡ true → ((p : ℕ) → p < 128 → del p y ≡ true → Delimits p y) → Delimits 0 u
-    outside-high g k ih =
-        more x y e (inl (record { char = b; is-scalar = c .is-scalar; in-class = plain-char b (rw (eqb-no b 62 (λ z. omega arith))) (rw (eqb-no b 34 (λ z. omega arith), eqb-no b 39 (λ z. omega arith))); bytes = c .bytes }))
-        (ih 0 (omega arith) (sym (del-high 0 x y (omega arith) (rw (c .bytes) (high-encode b g))) ∙ ap (del 0) (sym e) ∙ k))
+    outside-high : 128 ≤ b → T (all-high x) → del 0 u ≡ true → ((p : ℕ) → p < 128 → del p y ≡ true → Delimits p y) → Delimits 0 u
+    outside-high g a k ih =
+        more x y e (inl (reclass c (plain-char b (rw (eqb-no b 62 (λ z. omega arith))) (rw (eqb-no b 34 (λ z. omega arith), eqb-no b 39 (λ z. omega arith))))))
+        (ih 0 (omega arith) (sym (del-high 0 x y (omega arith) a) ∙ ap (del 0) (sym e) ∙ k))
 
     inside-on : (p : ℕ) → suc p < 128 → avoids (suc p) x ≡ true → Open (suc p) y → Open (suc p) u
     inside-on p k a o = record {
@@ -197,16 +195,15 @@ del-delimits q {u} l (more x y e c s) h = by-size (decide (ltb (c .char) 128)) (
       body = o .body;
     }
 
-    by-state : 128 ≤ b → (p : ℕ) → p < 128 → del p u ≡ true → ((p : ℕ) → p < 128 → del p y ≡ true → Delimits p y) → Delimits p u
-    by-state g zero k d ih = outside-high g d ih
-    by-state g (suc p) k d ih =
-        inside-on p k (ap (avoids (suc p)) (c .bytes) ∙ avoids-high (suc p) (encode b) k (high-encode b g))
-        (ih (suc p) k (sym (del-high (suc p) x y k (rw (c .bytes) (high-encode b g))) ∙ ap (del (suc p)) (sym e) ∙ d))
+    by-state : 128 ≤ b → T (all-high x) → (p : ℕ) → p < 128 → del p u ≡ true → ((p : ℕ) → p < 128 → del p y ≡ true → Delimits p y) → Delimits p u
+    by-state g a zero k d ih = outside-high g a d ih
+    by-state g a (suc p) k d ih =
+        inside-on p k (avoids-high (suc p) x k a) (ih (suc p) k (sym (del-high (suc p) x y k a) ∙ ap (del (suc p)) (sym e) ∙ d))
 
-    u-is : ltb b 128 ≡ true → u ≡ b ∷ y
-    u-is t = e ∙ ap (λ (z : List ℕ). z ++ y) (c .bytes ∙ encode-1 b (leb-true (suc b) 128 t))
+    u-is : x ≡ b ∷ [] → u ≡ b ∷ y
+    u-is t = e ∙ ap (λ (z : List ℕ). z ++ y) t
 
-    small : ltb b 128 ≡ true → (p : ℕ) → p < 128 → del p (b ∷ y) ≡ true → ((p : ℕ) → p < 128 → del p y ≡ true → Delimits p y) → Delimits p u
+    small : x ≡ b ∷ [] → (p : ℕ) → p < 128 → del p (b ∷ y) ≡ true → ((p : ℕ) → p < 128 → del p y ≡ true → Delimits p y) → Delimits p u
     small t zero k d ih = by-gt (one-of ">" b) refl d
       where
         by-quote : one-of ">" b ≡ false → (v : Bool) → one-of "\"'" b ≡ v → del (pick v b 0) y ≡ true → Delimits 0 u
@@ -215,7 +212,7 @@ del-delimits q {u} l (more x y e c s) h = by-size (decide (ltb (c .char) 128)) (
             opened : (a : ℕ) → (a ≡ 34) ⊎ (a ≡ 39) → del a y ≡ true → Open a y
             opened a (Logic.inl z) g = subst (λ (m : ℕ). Open m y) (sym z) (ih 34 (omega arith) (ap (λ (m : ℕ). del m y) (sym z) ∙ g))
             opened a (Logic.inr z) g = subst (λ (m : ℕ). Open m y) (sym z) (ih 39 (omega arith) (ap (λ (m : ℕ). del m y) (sym z) ∙ g))
-        by-quote n false f g = more x y e (inl (record { char = b; is-scalar = c .is-scalar; in-class = plain-char b n f; bytes = c .bytes })) (ih 0 (omega arith) g)
+        by-quote n false f g = more x y e (inl (reclass c (plain-char b n f))) (ih 0 (omega arith) g)
 
         by-gt : (v : Bool) → one-of ">" b ≡ v → (not v && del (pick (one-of "\"'" b) b 0) y) ≡ true → Delimits 0 u
         by-gt true f g = absurd (true≢false (sym g))
@@ -224,11 +221,11 @@ del-delimits q {u} l (more x y e c s) h = by-size (decide (ltb (c .char) 128)) (
       where
         by-eq : (v : Bool) → eqb b (suc p) ≡ v → del (pick v 0 (suc p)) y ≡ true → Open (suc p) u
         by-eq true f g = record { inside = []; rest = y; split = u-is t ∙ ap (λ (z : ℕ). z ∷ y) (eqb-true b (suc p) f); text = end refl; free = refl; body = ih 0 (omega arith) g }
-        by-eq false f g = inside-on p k (ap (avoids (suc p)) (c .bytes ∙ encode-1 b (leb-true (suc b) 128 t)) ∙ rw f) (ih (suc p) k g)
+        by-eq false f g = inside-on p k (ap (avoids (suc p)) t ∙ rw f) (ih (suc p) k g)
 
-    by-size : (ltb b 128 ≡ true) ⊎ (ltb b 128 ≡ false) → ((p : ℕ) → p < 128 → del p y ≡ true → Delimits p y) → Delimits q u
-    by-size (Logic.inl t) ih = small t q l (ap (del q) (sym (u-is t)) ∙ h) ih
-    by-size (Logic.inr t) ih = let g : 128 < suc b = leb-false (suc b) 128 t in by-state (omega arith) q l h ih
+    by-size : Sized c → ((p : ℕ) → p < 128 → del p y ≡ true → Delimits p y) → Delimits q u
+    by-size (low t is) ih = small is q l (ap (del q) (sym (u-is is)) ∙ h) ih
+    by-size (high t a) ih = by-state t a q l h ih
 
 module _ (D : Dialect) where
   -- a parameter-entity reference somewhere in a body

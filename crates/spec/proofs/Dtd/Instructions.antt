@@ -1,13 +1,13 @@
 -- Processing instructions. Assumes nothing.
 use mathlib.Core.Logic
-use mathlib.Core.Bool.{Bool, true, false, _&&_, _||_, not, true≢false}
+use mathlib.Core.Bool.{Bool, true, false, _&&_, not, true≢false}
 use mathlib.Core.List.{List, [], _∷_, _++_, append-nil}
 use mathlib.Core.Logic.{_⊎_}
 use mathlib.Core.Path.{_≡_, refl, sym, _∙_, ap, subst}
 use Prim.Native.Nat.{ℕ, suc, _+_, _<_}
 use Prim.Native.String.{String}
 use native.Mathlib.Omega.{arith}
-use lib.Dec.{T, eqb}
+use lib.Dec.{T, ltb}
 use lib.ListN.{length, take, drop, take-append-drop}
 use lib.Seq.{take-append-seam}
 use Rattle.spec.specs.Basics.{pick}
@@ -26,8 +26,8 @@ use Rattle.spec.proofs.Agreement.Signs.{sub-any}
 use Rattle.spec.proofs.Agreement.UpTo.{up-to-reads}
 use Rattle.spec.proofs.Agreement.Words.{wd, first-of}
 use Rattle.spec.proofs.Base.Results.{then-ok, unless-refused}
-use Rattle.spec.proofs.Base.Tests.{T→true, true→T, no→false, and-left, and-right}
-use Rattle.spec.proofs.Characters.Bytes.{avoids, avoids-append, class-avoids, text-front}
+use Rattle.spec.proofs.Base.Tests.{T→true, true→T, no→false, and-left, and-right, each-of, each-at, not-true, leb-true}
+use Rattle.spec.proofs.Characters.Bytes.{avoids, avoids-append, class-avoids, text-front, avoids-all, avoids-each}
 use Rattle.spec.proofs.Characters.Text.{text-rest, ascii-char, star-one, all-ascii, plus-star}
 use Rattle.spec.proofs.Characters.Utf8.{encode-1}
 use Rattle.spec.proofs.Agreement.Holds.{contains-avoid, contains-after, free-holds, holds-free, first-after, after-first}
@@ -60,19 +60,10 @@ solid-split (b ∷ u) = go (space b) refl (solid-split u)
     go true e ih = Logic.inr (b, u, refl, true→T (space b) e)
     go false e ih = ih
 
-run-solid : (x o : List ℕ) → avoids 32 x ≡ true → avoids 9 x ≡ true → avoids 13 x ≡ true → avoids 10 x ≡ true → run solid o ≡ 0 → run solid (x ++ o) ≡ length x
+run-solid : (x o : List ℕ) → avoids-all (ascii " \t\r\n") x ≡ true → run solid o ≡ 0 → run solid (x ++ o) ≡ length x
 unfolding run
-run-solid [] o p q r s z = z
-run-solid (b ∷ x) o p q r s z = go (eqb b 32) (eqb b 9) (eqb b 13) (eqb b 10) p q r s (λ p q r s. run-solid x o p q r s z)
-  where
-    go : (i j k l : Bool) → (not i && avoids 32 x) ≡ true → (not j && avoids 9 x) ≡ true → (not k && avoids 13 x) ≡ true → (not l && avoids 10 x) ≡ true
-        → (avoids 32 x ≡ true → avoids 9 x ≡ true → avoids 13 x ≡ true → avoids 10 x ≡ true → run solid (x ++ o) ≡ length x)
-        → pick (not (i || (j || (k || (l || false))))) (suc (run solid (x ++ o))) 0 ≡ suc (length x)
-    go true j k l p q r s ih = absurd (true≢false (sym p))
-    go false true k l p q r s ih = absurd (true≢false (sym q))
-    go false false true l p q r s ih = absurd (true≢false (sym r))
-    go false false false true p q r s ih = absurd (true≢false (sym s))
-    go false false false false p q r s ih = ap suc (ih p q r s)
+run-solid [] o h z = z
+run-solid (b ∷ x) o h z = rw (and-left (solid b) (avoids-all (ascii " \t\r\n") x) h) (ap suc (run-solid x o (and-right (solid b) (avoids-all (ascii " \t\r\n") x) h) z))
 
 -- xml in any case
 abbrev Xml : Lang
@@ -139,6 +130,14 @@ module _ (D : Dialect) (A : AsciiNames D) where
   unfolding PITarget NCName
   sign-avoids a l s p t x = name-avoids a l (A .start-ascii a l ∙ s) (A .part-ascii a l ∙ p) t (x .0 .0)
 
+  -- so it has none of some signs, if a computed test says that none is of a name
+  pub target-avoids : (s : List ℕ) → each-of (λ a. ltb a 128 && (not (start-sign a) && not (part-sign a))) s ≡ true → (t : List ℕ) → PITarget D t → avoids-all s t ≡ true
+  target-avoids s h t x = avoids-each s t
+      (λ a m.
+      let e : (ltb a 128 && (not (start-sign a) && not (part-sign a))) ≡ true = each-at (λ a. ltb a 128 && (not (start-sign a) && not (part-sign a))) s h a m in
+      let f : (not (start-sign a) && not (part-sign a)) ≡ true = and-right (ltb a 128) (not (start-sign a) && not (part-sign a)) e in
+      sign-avoids a (leb-true (suc a) 128 (and-left (ltb a 128) (not (start-sign a) && not (part-sign a)) e)) (not-true (start-sign a) (and-left (not (start-sign a)) (not (part-sign a)) f)) (not-true (part-sign a) (and-right (not (start-sign a)) (not (part-sign a)) f)) t x)
+
   pub inner-free : (u : List ℕ) → Inner u → contains QG u ≡ false
   unfolding S contains
   inner-free u c = ap (contains QG) (c .split) ∙ contains-avoid 63 (62 ∷ []) (c .left) (c .right) (sign-avoids 63 (omega arith) refl refl (c .left) (c .first)) ∙ go (c .right) (c .second)
@@ -163,7 +162,7 @@ module _ (D : Dialect) (A : AsciiNames D) where
   inner-complete u c =
       let t : List ℕ = c .left in
       let (j, e) = target-complete t (c .first) in
-      let r : run solid (t ++ c .right) ≡ length t = run-solid t (c .right) (sign-avoids 32 (omega arith) refl refl t (c .first)) (sign-avoids 9 (omega arith) refl refl t (c .first)) (sign-avoids 13 (omega arith) refl refl t (c .first)) (sign-avoids 10 (omega arith) refl refl t (c .first)) (space-run (c .right) (c .second)) in
+      let r : run solid (t ++ c .right) ≡ length t = run-solid t (c .right) (target-avoids (ascii " \t\r\n") refl t (c .first)) (space-run (c .right) (c .second)) in
       (j, rw (c .split, r, take-append-seam t (c .right)) e)
 
   inner-sound : (u : List ℕ) (j : ℕ) → Star (Ch any) u → contains QG u ≡ false → check-pi D u ≡ ok j → Inner u

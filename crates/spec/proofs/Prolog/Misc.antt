@@ -1,20 +1,20 @@
 -- What stands before the DOCTYPE, or instead of it, is passed over: white space, comments and instructions. Assumes nothing.
 use mathlib.Core.Logic
-use mathlib.Core.Bool.{Bool, true, false, _&&_, _||_, not, true≢false}
+use mathlib.Core.Bool.{Bool, true, false, _&&_, not, true≢false}
 use mathlib.Core.List.{List, [], _∷_, _++_, append-assoc}
 use mathlib.Core.Logic.{_⊎_}
 use mathlib.Core.Path.{_≡_, refl, sym, _∙_, ap, subst}
 use Prim.Native.Nat.{ℕ, zero, suc, _+_, _<_, _≤_}
 use Prim.Native.String.{String}
 use native.Mathlib.Omega.{arith}
-use lib.Dec.{T, eqb, ltb}
+use lib.Dec.{T, ltb}
 use lib.ListN.{length, getD, drop, length-append}
 use lib.Seq.{drop-at, drop-drop, drop-append-seam}
 use Rattle.spec.specs.Basics.{pick}
 use Rattle.spec.specs.Grammar.Characters.{S, space}
 use Rattle.spec.specs.Grammar.Declarations.{PI, Comment}
 use Rattle.spec.specs.Grammar.Doctype.{Misc}
-use Rattle.spec.specs.Grammar.Languages.{ascii, Ch, _·_, _∣_, inl, inr, Star, end, more, Plus, Opt, one-of, none-of}
+use Rattle.spec.specs.Grammar.Languages.{ascii, Ch, _·_, _∣_, inl, inr, Star, end, more, Plus, Opt, one-of, among}
 use Rattle.spec.specs.Grammar.Names.{Dialect, PITarget}
 use Rattle.spec.specs.Reading.Dtd.{reserved}
 use Rattle.spec.specs.Reading.Prolog.{word-at, is-declaration, next-item}
@@ -25,12 +25,12 @@ use Rattle.spec.proofs.Agreement.Holds.{first-after}
 use Rattle.spec.proofs.Agreement.Runs.{among-ascii, space-ascii}
 use Rattle.spec.proofs.Agreement.Signs.{kind}
 use Rattle.spec.proofs.Agreement.Words.{contains-at, starts-split}
-use Rattle.spec.proofs.Base.Tests.{T→true, no→false, decide, leb-true, leb-false, and-left, and-right}
-use Rattle.spec.proofs.Characters.Bytes.{avoids}
+use Rattle.spec.proofs.Base.Tests.{T→true, no→false, decide, leb-true, leb-false, and-left, and-right, among-sub}
+use Rattle.spec.proofs.Characters.Bytes.{avoids-all}
 use Rattle.spec.proofs.Characters.Text.{all-ascii, cat-size, plus-star}
 use Rattle.spec.proofs.Characters.Utf8.{encode-1, decode-1, decode-read, Read}
 use Rattle.spec.proofs.Dtd.Comments.{twice, no-twice, first-close}
-use Rattle.spec.proofs.Dtd.Instructions.{Unmarked, Inner, inner-free, sign-avoids, reserved-xml}
+use Rattle.spec.proofs.Dtd.Instructions.{Unmarked, Inner, inner-free, reserved-xml, target-avoids}
 use Rattle.spec.proofs.Prolog.Turns.{moved, moved-moved, moved-none, next-space, next-comment, next-instruction}
 use Rattle.spec.proofs.Wellformed.Names.{AsciiNames}
 
@@ -59,20 +59,15 @@ module _ (s : String) (small : T (all-ascii (ascii s))) (none : one-of s 0 ≡ f
       go (Logic.inl e) = rw (decode-1 b w (leb-true (suc b) 128 e))
       go (Logic.inr e) = let l : 128 < suc b = leb-false (suc b) 128 e in high-point (decode1 (b ∷ w)) refl e ∙ sym (high-not b (omega arith))
 
--- each byte is of a class
-abbrev every : (ℕ → Bool) → List ℕ → Bool
-every p [] = true
-every p (b ∷ bs) = p b && every p bs
-
--- two texts of bytes of a class are one where what follows is none
-same-front : (p : ℕ → Bool) (t s : List ℕ) (b c : ℕ) (y v : List ℕ) → every p t ≡ true → every p s ≡ true → p b ≡ false → p c ≡ false → t ++ b ∷ y ≡ s ++ c ∷ v → t ≡ s
-same-front p [] [] b c y v h g k l e = refl
-same-front p [] (d ∷ s) b c y v h g k l e = let f : b ≡ d = cc in absurd (true≢false (sym (and-left (p d) (every p s) g) ∙ ap p (sym f) ∙ k))
-same-front p (a ∷ t) [] b c y v h g k l e = let f : a ≡ c = cc in absurd (true≢false (sym (and-left (p a) (every p t) h) ∙ ap p f ∙ l))
-same-front p (a ∷ t) (d ∷ s) b c y v h g k l e =
+-- two texts without some signs are one where one of these follows
+same-front : (s t u : List ℕ) (b c : ℕ) (y v : List ℕ) → avoids-all s t ≡ true → avoids-all s u ≡ true → among s b ≡ true → among s c ≡ true → t ++ b ∷ y ≡ u ++ c ∷ v → t ≡ u
+same-front s [] [] b c y v h g k l e = refl
+same-front s [] (d ∷ u) b c y v h g k l e = let f : b ≡ d = cc in absurd (true≢false (sym (and-left (not (among s d)) (avoids-all s u) g) ∙ ap (λ (x : ℕ). not (among s x)) (sym f) ∙ ap not k))
+same-front s (a ∷ t) [] b c y v h g k l e = let f : a ≡ c = cc in absurd (true≢false (sym (and-left (not (among s a)) (avoids-all s t) h) ∙ ap (λ (x : ℕ). not (among s x)) f ∙ ap not l))
+same-front s (a ∷ t) (d ∷ u) b c y v h g k l e =
     let f : a ≡ d = cc in
-    let m : t ++ b ∷ y ≡ s ++ c ∷ v = cc in
-    let n : t ≡ s = same-front p t s b c y v (and-right (p a) (every p t) h) (and-right (p d) (every p s) g) k l m in
+    let m : t ++ b ∷ y ≡ u ++ c ∷ v = cc in
+    let n : t ≡ u = same-front s t u b c y v (and-right (not (among s a)) (avoids-all s t) h) (and-right (not (among s d)) (avoids-all s u) g) k l m in
     (λ i. f i ∷ n i)
 
 -- what is passed is a front part of known length
@@ -127,33 +122,9 @@ abbrev pub ends-target : String
 ends-target = " \t\r\n?"
 
 pub space-ends : (b : ℕ) → space b ≡ true → one-of ends-target b ≡ true
-space-ends b e = wider (eqb b 32) (eqb b 9) (eqb b 13) (eqb b 10) (eqb b 63) e
-  where
-    wider : (i j l m n : Bool) → (i || (j || (l || (m || false)))) ≡ true → (i || (j || (l || (m || (n || false))))) ≡ true
-    wider true j l m n e = refl
-    wider false true l m n e = refl
-    wider false false true m n e = refl
-    wider false false false true n e = refl
-    wider false false false false n e = absurd (true≢false (sym e))
+space-ends = among-sub (ascii " \t\r\n") (ascii ends-target) tt
 
 module _ (D : Dialect) (A : AsciiNames D) where
-  target-free : (t : List ℕ) → PITarget D t → every (none-of ends-target) t ≡ true
-  target-free t p = go t (sign-avoids D A 32 (omega arith) refl refl t p) (sign-avoids D A 9 (omega arith) refl refl t p) (sign-avoids D A 13 (omega arith) refl refl t p) (sign-avoids D A 10 (omega arith) refl refl t p) (sign-avoids D A 63 (omega arith) refl refl t p)
-    where
-      go : (x : List ℕ) → avoids 32 x ≡ true → avoids 9 x ≡ true → avoids 13 x ≡ true → avoids 10 x ≡ true → avoids 63 x ≡ true → every (none-of ends-target) x ≡ true
-      go [] a b c d e = refl
-      go (k ∷ x) a b c d e = by (eqb k 32) (eqb k 9) (eqb k 13) (eqb k 10) (eqb k 63) a b c d e (go x)
-        where
-          by : (i j l m n : Bool) → (not i && avoids 32 x) ≡ true → (not j && avoids 9 x) ≡ true → (not l && avoids 13 x) ≡ true → (not m && avoids 10 x) ≡ true → (not n && avoids 63 x) ≡ true
-              → (avoids 32 x ≡ true → avoids 9 x ≡ true → avoids 13 x ≡ true → avoids 10 x ≡ true → avoids 63 x ≡ true → every (none-of ends-target) x ≡ true)
-              → (not (i || (j || (l || (m || (n || false))))) && every (none-of ends-target) x) ≡ true
-          by true j l m n a b c d e ih = absurd (true≢false (sym a))
-          by false true l m n a b c d e ih = absurd (true≢false (sym b))
-          by false false true m n a b c d e ih = absurd (true≢false (sym c))
-          by false false false true n a b c d e ih = absurd (true≢false (sym d))
-          by false false false false true a b c d e ih = absurd (true≢false (sym e))
-          by false false false false false a b c d e ih = ih a b c d e
-
   -- what follows the target
   record Ended (w : List ℕ) : Type 0 where
     sign-there : ℕ
@@ -181,7 +152,7 @@ module _ (D : Dialect) (A : AsciiNames D) where
       by-rest [] e f = true≢false (sym f)
       by-rest (c ∷ v) e f =
           let q : t ≡ 120 ∷ 109 ∷ 108 ∷ [] =
-          same-front (none-of ends-target) t (120 ∷ 109 ∷ 108 ∷ []) (n .sign-there) c (n .rest) v (target-free t p) refl (ap not (n .ends)) (ap not f) (ap (λ (x : List ℕ). t ++ x) (sym (n .is)) ∙ e) in
+          same-front (ascii ends-target) t (120 ∷ 109 ∷ 108 ∷ []) (n .sign-there) c (n .rest) v (target-avoids D A (ascii ends-target) refl t p) refl (n .ends) f (ap (λ (x : List ℕ). t ++ x) (sym (n .is)) ∙ e) in
           p .1 (reserved-xml D A t (ap reserved q))
 
       go : (is-declaration w ≡ true) ⊎ (is-declaration w ≡ false) → is-declaration w ≡ false
