@@ -2,7 +2,7 @@
 use mathlib.Core.Bool.{Bool, true, false, _&&_, _||_, not, true≢false}
 use mathlib.Core.List.{List, [], _∷_, _++_, append-assoc}
 use mathlib.Core.Path.{_≡_, refl, sym, _∙_, ap, subst}
-use Prim.Native.Nat.{ℕ, suc, _≤_, _<_}
+use Prim.Native.Nat.{ℕ, suc, _≤_, _<_, _+_}
 use Prim.Native.String.{String}
 use native.Mathlib.Omega.{arith}
 use lib.Dec.{T, ltb, eqb, eqb-refl}
@@ -127,6 +127,22 @@ before-le p (b ∷ w) = go (starts p (b ∷ w)) (before-le p w)
     go : (t : Bool) → before p w ≤ length w → pick t 0 (suc (before p w)) ≤ suc (length w)
     go true h = omega arith
     go false h = omega arith
+
+-- a word stands in the text, wherever it stands
+pub starts-within : (p w : List ℕ) → starts p w ≡ true → length p ≤ length w
+unfolding starts
+starts-within [] w e = omega arith
+starts-within (a ∷ p) [] e = absurd (true≢false (sym e))
+starts-within (a ∷ p) (b ∷ w) e = let h = starts-within p w (and-right (eqb b a) (starts p w) e) in omega arith
+
+pub before-within : (p w : List ℕ) → contains p w ≡ true → before p w + length p ≤ length w
+unfolding contains before
+before-within p [] e = absurd (true≢false (sym e))
+before-within p (b ∷ w) e = go (starts p (b ∷ w)) refl e (before-within p w)
+  where
+    go : (t : Bool) → starts p (b ∷ w) ≡ t → (t || contains p w) ≡ true → (contains p w ≡ true → before p w + length p ≤ length w) → pick t 0 (suc (before p w)) + length p ≤ suc (length w)
+    go true f g ih = let h : length p ≤ suc (length w) = starts-within p (b ∷ w) f in omega arith
+    go false f g ih = let h = ih g in omega arith
 
 pub contains-at : (a : ℕ) (p u v : List ℕ) → contains (a ∷ p) (u ++ ((a ∷ p) ++ v)) ≡ true
 unfolding contains

@@ -6,14 +6,14 @@ use mathlib.Core.Path.{_≡_, refl, sym, _∙_, ap, subst}
 use Prim.Native.Nat.{ℕ, zero, suc, _+_, _≤_, _<_}
 use native.Mathlib.Omega.{arith}
 use lib.Dec.{ltb, eqb}
-use lib.ListN.{length, take, drop}
+use lib.ListN.{length, take, drop, length-take}
 use lib.Seq.{take-nil}
 use Rattle.spec.specs.Basics.{pick}
 use Rattle.spec.specs.Grammar.Languages.{ascii, one-of}
 use Rattle.spec.specs.Reading.Readers.{starts, contains, before}
 use Rattle.spec.specs.Reading.Scan.{Place, at, nowhere, later, subset-open, subset-end}
-use Rattle.spec.proofs.Agreement.Words.{starts-split}
-use Rattle.spec.proofs.Base.Tests.{decide, leb-yes, leb-no, leb-true, leb-false, and-left, and-right, or-false-left, or-false-right}
+use Rattle.spec.proofs.Agreement.Words.{starts-split, before-within}
+use Rattle.spec.proofs.Base.Tests.{decide, leb-yes, leb-no, leb-true, leb-false, and-left, and-right, or-false-left, or-false-right, no→false, T→true}
 
 -- a place, if it is one of the first k
 abbrev pub cut-off : ℕ → Place → Place
@@ -77,24 +77,10 @@ not-both : (b : Bool) → b ≡ true → b ≡ false → ⊥
 not-both b e f = true≢false (sym e ∙ f)
 
 short : (k : ℕ) (w : List ℕ) → length (take k w) ≤ k
-short zero w = omega arith
-short (suc k) [] = omega arith
-short (suc k) (b ∷ w) = let h : length (take k w) ≤ k = short k w in omega arith
-
-starts-short : (p w : List ℕ) → length w < length p → starts p w ≡ false
-unfolding starts
-starts-short [] w h = absurd (let g : length w < 0 = h in omega arith)
-starts-short (a ∷ p) [] h = refl
-starts-short (a ∷ p) (b ∷ w) h = go (eqb b a) (starts-short p w (let g : suc (length w) < suc (length p) = h in omega arith))
-  where
-    go : (t : Bool) → starts p w ≡ false → (t && starts p w) ≡ false
-    go true e = e
-    go false e = refl
+short k w = omega (arith, length-take k w)
 
 contains-short : (a : ℕ) (p w : List ℕ) → length w < suc (length p) → contains (a ∷ p) w ≡ false
-unfolding contains
-contains-short a p [] h = refl
-contains-short a p (b ∷ w) h = rw (starts-short (a ∷ p) (b ∷ w) h) (contains-short a p w (omega arith))
+contains-short a p w h = no→false (contains (a ∷ p) w) (λ t. let l : before (a ∷ p) w + suc (length p) ≤ length w = before-within (a ∷ p) w (T→true (contains (a ∷ p) w) t) in omega arith)
 
 contains-front : (a : ℕ) (p : List ℕ) (k : ℕ) (w : List ℕ) → contains (a ∷ p) (take k w) ≡ true → (contains (a ∷ p) w ≡ true) × (before (a ∷ p) (take k w) ≡ before (a ∷ p) w)
 unfolding contains before

@@ -1,5 +1,6 @@
 -- The grammar divides the internal subset into entries, and in one way only. Assumes nothing.
 use mathlib.Core.Logic
+use Rattle.spec.proofs.Dtd.Subset.{Items, refer, declare, written}
 use Rattle.spec.proofs.Dtd.Subset as Subset
 use mathlib.Core.Bool.{Bool, true, false, _||_, or-false, or-true}
 use mathlib.Core.List.{List, [], _∷_, _++_, append-assoc, append-nil}
@@ -10,11 +11,11 @@ use Prim.Native.String.{String}
 use lib.Dec.{T}
 use lib.ListN.{length, take, drop}
 use lib.Seq.{take-append-seam, take-at, drop-append-seam, drop-at}
-use Rattle.spec.specs.Grammar.Characters.{S, S?}
+use Rattle.spec.specs.Grammar.Characters.{S?}
 use Rattle.spec.specs.Grammar.Declarations.{PI, Comment, markupdecl}
 use Rattle.spec.specs.Grammar.Division.{Kind, element, attlist, entity, notation, instruction, comment, reference, refers, entry-of, Front}
 use Rattle.spec.specs.Grammar.Doctype.{intSubset, doctypedecl}
-use Rattle.spec.specs.Grammar.Languages.{Lang, lit, ascii, _·_, _∣_, inl, inr, Star, end, more, Opt, any}
+use Rattle.spec.specs.Grammar.Languages.{Lang, lit, ascii, _·_, _∣_, inl, inr, Opt, any}
 use Rattle.spec.specs.Grammar.Names.{Dialect, PEReference}
 use Rattle.spec.specs.Reading.Dtd.{skip-s, parse-pe-reference, parse-markup-decl}
 use Rattle.spec.specs.Reading.Readers.{ok, Reader, starts, on, past}
@@ -22,11 +23,10 @@ use Rattle.spec.specs.Reading.Scan.{at, subset-open}
 use Rattle.spec.proofs.Agreement.Algebra.{_then_, cat₂, assoc}
 use Rattle.spec.proofs.Agreement.Choices.{on-begun}
 use Rattle.spec.proofs.Agreement.Reads.{Reads, Next, _≅_}
-use Rattle.spec.proofs.Agreement.Runs.{not-space, skip, spaces, s-s?, no-spaces}
+use Rattle.spec.proofs.Agreement.Runs.{not-space, skip}
 use Rattle.spec.proofs.Agreement.Signs.{kind, Class, _∪_, sub-refl, by-signs, sub-at}
 use Rattle.spec.proofs.Agreement.Words.{first-of, starts-lit}
 use Rattle.spec.proofs.Base.Results.{ok-inj}
-use Rattle.spec.proofs.Characters.Text.{star-append}
 use Rattle.spec.proofs.Division.Clear.{clear-front}
 use Rattle.spec.proofs.Division.Divide.{kind-at}
 use Rattle.spec.proofs.Division.FrontParts.{at-inj}
@@ -65,7 +65,7 @@ module _ (D : Dialect) (A : AsciiNames D) where
   kind-is pe reference y v l = ap kind-at (begun "%" v l)
 
   pe-reads : Reads (parse-pe-reference D) (PEReference D) (Next any) (first-of "%")
-  pe-reads = Subset.pe-reads D A (markupdecl D) (markup-reads D A)
+  pe-reads = Subset.pe-reads D A
 
   entry-reads : (pe : Bool) → Reads (on "%" (parse-pe-reference D) (parse-markup-decl D pe)) (PEReference D ∣ markupdecl D pe) (Next any) (first-of "%" ∪ first-of "<")
   unfolding PEReference
@@ -148,20 +148,17 @@ module _ (D : Dialect) (A : AsciiNames D) where
       opened : (d : Parts D w) → subset-open 0 w ≡ at (length (d .front))
       opened d = ap (subset-open 0) (d .split) ∙ found-after (subset-open 0) (d .front) (91 ∷ (d .inner ++ (93 ∷ d .back))) (clear-front D A (d .front) (d .heads)) refl
 
-  -- what W3C's text derives, divided
-  fill-space : {pe : Bool} {z : List ℕ} (x : List ℕ) → S? x → Filling D pe z → Filling D pe (x ++ z)
-  unfolding S?
-  fill-space x s (last b) = last (star-append s b)
-  fill-space x s (next k a y z e b l f) = next k (x ++ a) y z (ap (λ (u : List ℕ). x ++ u) e ∙ sym (append-assoc x a (y ++ z))) (star-append s b) l f
-
-  add : (pe : Bool) (y z : List ℕ) → markupdecl D pe y → Filling D pe z → Filling D pe (y ++ z)
+  -- what W3C's text derives, divided; and the other way round
+  to-filling : {pe : Bool} {w : List ℕ} → Items D (markupdecl D) pe w → Filling D pe w
   unfolding markupdecl
-  add pe y z m f = go m
+  to-filling (Subset.last b) = last b
+  to-filling {pe} (Subset.next x y z e s (refer p) i) = next reference x y z e s p (subst (λ (b : Bool). Filling D b z) (sym (or-true pe)) (to-filling i))
+  to-filling {pe} {w} (Subset.next x y z e s (declare m) i) = go m (to-filling i)
     where
-      one : (k : Kind) → refers k ≡ false → entry-of D pe k y → Filling D pe (y ++ z)
-      one k e l = next k [] y z refl no-spaces l (subst (λ (b : Bool). Filling D b z) (sym (ap (λ (b : Bool). pe || b) e ∙ or-false pe)) f)
+      one : (k : Kind) → refers k ≡ false → entry-of D pe k y → Filling D pe z → Filling D pe w
+      one k h l f = next k x y z e s l (subst (λ (b : Bool). Filling D b z) (sym (ap (λ (b : Bool). pe || b) h ∙ or-false pe)) f)
 
-      go : markupdecl D pe y → Filling D pe (y ++ z)
+      go : markupdecl D pe y → Filling D pe z → Filling D pe w
       go (inl l) = one element refl l
       go (inr (inl l)) = one attlist refl l
       go (inr (inr (inl l))) = one entity refl l
@@ -169,55 +166,13 @@ module _ (D : Dialect) (A : AsciiNames D) where
       go (inr (inr (inr (inr (inl l))))) = one instruction refl l
       go (inr (inr (inr (inr (inr l))))) = one comment refl l
 
-  abbrev Unread-items : Lang
-  Unread-items = Star (markupdecl D true ∣ PEReference D ∣ S)
-
-  unread-filling : {u : List ℕ} → Unread-items u → Filling D true u
-  unread-filling (end e) = last (subst S? (sym e) no-spaces)
-  unread-filling (more x y e (inl m) s) = subst (Filling D true) (sym e) (add true x y m (unread-filling s))
-  unread-filling (more x y e (inr (inl p)) s) = next reference [] x y e no-spaces p (unread-filling s)
-  unread-filling (more x y e (inr (inr p)) s) = subst (Filling D true) (sym e) (fill-space x (s-s? x p) (unread-filling s))
-
-  read-filling : {u : List ℕ} (o : List ℕ) → Star (markupdecl D false ∣ S) u → Opt (PEReference D · Unread-items) o → Filling D false (u ++ o)
-  read-filling o (end e) (inr n) = last (subst S? (sym (λ i. e i ++ n i)) no-spaces)
-  read-filling o (end e) (inl c) = next reference [] (c .left) (c .right) (λ i. e i ++ c .split i) no-spaces (c .first) (unread-filling (c .second))
-  read-filling o (more x y e (inl m) s) q =
-      subst (Filling D false) (sym (ap (λ (z : List ℕ). z ++ o) e ∙ append-assoc x y o)) (add false x (y ++ o) m (read-filling o s q))
-  read-filling o (more x y e (inr p) s) q =
-      subst (Filling D false) (sym (ap (λ (z : List ℕ). z ++ o) e ∙ append-assoc x y o)) (fill-space x (s-s? x p) (read-filling o s q))
-
-  -- and the other way round
-  filling-unread : {pe : Bool} {w : List ℕ} → pe ≡ true → Filling D pe w → Unread-items w
-  filling-unread h (last b) = spaces (λ w s. inr (inr s)) b
-  filling-unread {pe} h (next k s y z e b l f) =
-      subst Unread-items (sym e) (star-append (spaces (λ w s. inr (inr s)) b) (more y z refl (item (sort true k y (subst (λ (v : Bool). entry-of D v k y) h l))) (filling-unread (ap (λ (v : Bool). v || refers k) h) f)))
+  of-filling : {pe : Bool} {w : List ℕ} → Filling D pe w → Items D (markupdecl D) pe w
+  of-filling (last b) = Subset.last b
+  of-filling {pe} {w} (next k s y z e b l f) = go (sort pe k y l) (of-filling f)
     where
-      item : Sorted true k y → (markupdecl D true ∣ PEReference D ∣ S) y
-      item (Logic.inl x) = inr (inl (x .1))
-      item (Logic.inr x) = inl (x .1)
-
-  filling-read : {pe : Bool} {w : List ℕ} → pe ≡ false → Filling D pe w → intSubset D w
-  unfolding intSubset
-  filling-read {w = w} h (last b) = record { left = w; right = []; split = sym (append-nil w); first = spaces (λ w s. inr s) b; second = inr refl }
-  filling-read {pe} {w} h (next k s y z e b l f) = go (sort false k y (subst (λ (v : Bool). entry-of D v k y) h l)) (λ g. filling-read g f)
-    where
-      go : Sorted false k y → ((pe || refers k) ≡ false → (Star (markupdecl D false ∣ S) · Opt (PEReference D · Unread-items)) z) → (Star (markupdecl D false ∣ S) · Opt (PEReference D · Unread-items)) w
-      go (Logic.inl x) ih = record {
-        left = s;
-        right = y ++ z;
-        split = e;
-        first = spaces (λ w s. inr s) b;
-        second = inl (record { left = y; right = z; split = refl; first = x .1; second = filling-unread (ap (λ (v : Bool). pe || v) (x .0) ∙ or-true pe) f });
-      }
-      go (Logic.inr x) ih =
-          let t : (Star (markupdecl D false ∣ S) · Opt (PEReference D · Unread-items)) z = ih ((λ i. h i || x .0 i)) in
-          record {
-            left = s ++ (y ++ t .left);
-            right = t .right;
-            split = e ∙ ap (λ (q : List ℕ). s ++ (y ++ q)) (t .split) ∙ ap (λ (q : List ℕ). s ++ q) (sym (append-assoc y (t .left) (t .right))) ∙ sym (append-assoc s (y ++ t .left) (t .right));
-            first = star-append (spaces (λ w s. inr s) b) (more y (t .left) refl (inl (x .1)) (t .first));
-            second = t .second;
-          }
+      go : Sorted pe k y → Items D (markupdecl D) (pe || refers k) z → Items D (markupdecl D) pe w
+      go (Logic.inl x) i = Subset.next s y z e b (refer (x .1)) (subst (λ (v : Bool). Items D (markupdecl D) v z) (ap (λ (v : Bool). pe || v) (x .0) ∙ or-true pe) i)
+      go (Logic.inr x) i = Subset.next s y z e b (declare (x .1)) (subst (λ (v : Bool). Items D (markupdecl D) v z) (ap (λ (v : Bool). pe || v) (x .0) ∙ or-false pe) i)
 
   abbrev Bracket : Lang
   Bracket = lit "[" · intSubset D · lit "]" · S?
@@ -240,7 +195,7 @@ module _ (D : Dialect) (A : AsciiNames D) where
             back = l .second .second .right;
             split = c .split ∙ ap (λ (z : List ℕ). c .left ++ z) (l .split ∙ (λ i. l .first i ++ (l .second .split ∙ ap (λ (z : List ℕ). l .second .left ++ z) (l .second .second .split ∙ ap (λ (z : List ℕ). z ++ l .second .second .right) (l .second .second .first))) i));
             heads = c .first;
-            fills = subst (Filling D false) (sym (l .second .first .split)) (read-filling (l .second .first .right) (l .second .first .first) (l .second .first .second));
+            fills = to-filling (written D (markupdecl D) .from (l .second .left) (l .second .first));
             ends = l .second .second .second;
           })
 
@@ -260,7 +215,7 @@ module _ (D : Dialect) (A : AsciiNames D) where
             left = d .inner;
             right = ascii "]" ++ d .back;
             split = refl;
-            first = filling-read refl (d .fills);
+            first = unfold intSubset in written D (markupdecl D) .to (d .inner) (of-filling (d .fills));
             second = record { left = ascii "]"; right = d .back; split = refl; first = refl; second = d .ends };
           };
         });

@@ -48,13 +48,13 @@ module _ (D : Dialect) (A : AsciiNames D) where
 module _ (D : Dialect) (A : AsciiNames D) (M : Bool → Lang) (reads-markup : (pe : Bool) → Reads (parse-markup-decl D pe) (M pe) (Next any) (first-of "<")) where
   -- what stands after the name, as it is read and as it is written
   abbrev In-brackets : Lang
-  In-brackets = lit "[" · (Written D A M reads-markup · lit "]") · S?
+  In-brackets = lit "[" · (Written D M · lit "]") · S?
 
   abbrev Raw : Lang
   Raw = S? · ((ExternalID · S?) ∣ ε) · (In-brackets ∣ ε) · ε
 
   abbrev pub Tail : Lang
-  Tail = Opt (S · ExternalID) · S? · Opt (lit "[" · Written D A M reads-markup · lit "]" · S?)
+  Tail = Opt (S · ExternalID) · S? · Opt (lit "[" · Written D M · lit "]" · S?)
 
   external-ahead : List ℕ → Bool
   external-ahead w = starts (ascii "SYSTEM") w || starts (ascii "PUBLIC") w
@@ -102,14 +102,14 @@ module _ (D : Dialect) (A : AsciiNames D) (M : Bool → Lang) (reads-markup : (p
       go true e h = rw (decode-1 b w (leb-true (suc b) 128 e)) (is-part (two-signs 83 80 b (T→true (one-of "SP" b) h)))
       go false e h = absurd h
 
-  bracket : ((In-brackets ∣ ε) · ε) ≅ Opt (lit "[" · Written D A M reads-markup · lit "]" · S?)
+  bracket : ((In-brackets ∣ ε) · ε) ≅ Opt (lit "[" · Written D M · lit "]" · S?)
   bracket = none-after then either (cat₂ assoc) same
 
   tail-of : (w : List ℕ) → begins (D .part) w ≡ false → Raw w → Tail w
   unfolding S S?
   tail-of w n c = go (c .left) (c .first) (c .split) (c .second .left) (c .second .first) (c .second .split)
     where
-      z : Opt (lit "[" · Written D A M reads-markup · lit "]" · S?) (c .second .right)
+      z : Opt (lit "[" · Written D M · lit "]" · S?) (c .second .right)
       z = bracket .to (c .second .right) (c .second .second)
 
       go : (x : List ℕ) → S? x → w ≡ x ++ c .right → (y : List ℕ) → ((ExternalID · S?) ∣ ε) y → c .right ≡ y ++ c .second .right → Tail w
@@ -171,7 +171,7 @@ module _ (D : Dialect) (A : AsciiNames D) (M : Bool → Lang) (reads-markup : (p
   tail-leads : Leads Tail (Next stop) tail-after
   tail-leads u v c t = go (c .left) (c .first) (c .split)
     where
-      z : (x : List ℕ) → Opt (lit "[" · Written D A M reads-markup · lit "]" · S?) x → T (before-end (kind (x ++ v)))
+      z : (x : List ℕ) → Opt (lit "[" · Written D M · lit "]" · S?) x → T (before-end (kind (x ++ v)))
       z x (inl l) = sub-at (first-of "[") before-end (by-signs tt) (x ++ v)
           (subst (λ (q : List ℕ). T (first-of "[" (kind q))) (sym (cat-before l v)) (wd "[" unexpected tt .leads (l .left) (l .right ++ v) (l .first) (record { it = tt })))
       z x (inr o) = sub-at stop before-end (by-signs tt) (x ++ v) (subst (λ (q : List ℕ). T (stop (kind (q ++ v)))) (sym o) (t .it))

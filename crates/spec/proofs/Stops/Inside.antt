@@ -1,7 +1,7 @@
 -- Readers take no more bytes than there are, by how they are made. Assumes nothing.
-use mathlib.Core.Bool.{Bool, true, false, _||_, true≢false}
+use mathlib.Core.Bool.{Bool, true, false, _||_}
 use mathlib.Core.List.{List, [], _∷_}
-use mathlib.Core.Path.{_≡_, refl, sym}
+use mathlib.Core.Path.{_≡_}
 use Prim.Native.Nat.{ℕ, zero, suc, _+_, _≤_, _<_}
 use Prim.Native.String.{String}
 use native.Mathlib.Omega.{arith}
@@ -30,14 +30,14 @@ use Rattle.spec.specs.Reading.Dtd.{
   finish-decl,
   parse-markup-decl,
 }
+use Rattle.spec.proofs.Agreement.Words.{starts-within, before-within}
 use Rattle.spec.proofs.Base.Results.{err-ok, ok-inj, past-ok, then-ok, on-ok-ok, by-reader, else-refused, unless-refused, else-refuses}
-use Rattle.spec.proofs.Base.Tests.{and-right}
 use Rattle.spec.proofs.Wellformed.LongestName.{name-within}
 
 pub record Inside (r : Reader) : Type 0 where
   pub inside : (w : List ℕ) (k : ℕ) → r w ≡ ok k → k ≤ length w
 
--- a run, a word, and a word further on
+-- a run
 run-short : (p : ℕ → Bool) (w : List ℕ) → run p w ≤ length w
 unfolding run
 run-short p [] = omega arith
@@ -46,21 +46,6 @@ run-short p (b ∷ w) = go (p b) (run-short p w)
     go : (t : Bool) → run p w ≤ length w → pick t (suc (run p w)) 0 ≤ suc (length w)
     go true h = omega arith
     go false h = omega arith
-
-starts-short : (p w : List ℕ) → starts p w ≡ true → length p ≤ length w
-unfolding starts
-starts-short [] w e = omega arith
-starts-short (a ∷ p) [] e = absurd (true≢false (sym e))
-starts-short (a ∷ p) (b ∷ w) e = let h = starts-short p w (and-right (eqb b a) (starts p w) e) in omega arith
-
-before-short : (p w : List ℕ) → contains p w ≡ true → before p w + length p ≤ length w
-unfolding contains before
-before-short p [] e = absurd (true≢false (sym e))
-before-short p (b ∷ w) e = go (starts p (b ∷ w)) refl e (before-short p w)
-  where
-    go : (t : Bool) → starts p (b ∷ w) ≡ t → (t || contains p w) ≡ true → (contains p w ≡ true → before p w + length p ≤ length w) → pick t 0 (suc (before p w)) + length p ≤ suc (length w)
-    go true f g ih = let h : length p ≤ suc (length w) = starts-short p (b ∷ w) f in omega arith
-    go false f g ih = let h = ih g in omega arith
 
 -- the '>' that ends a body stands in the text
 pub body-within : (q k : ℕ) (w : List ℕ) → take-decl-body q w ≡ ok k → k < length w
@@ -102,7 +87,7 @@ inside-word p n = record {
   inside = λ w k e.
       let (f, g) = else-refused n (starts p w) (ok (length p)) k e in
       let z = ok-inj (length p) k g in
-      let y = starts-short p w f in
+      let y = starts-within p w f in
       omega arith;
 }
 
@@ -141,7 +126,7 @@ inside-up-to s n check = record {
       let (f, g) = else-refuses n (contains (ascii s) w) (λ x. on-ok (check (take n₁ w)) (λ _. ok (n₁ + length (ascii s)))) w k e in
       let (j, _, h) = on-ok-ok (check (take n₁ w)) (λ _. ok (n₁ + length (ascii s))) k g in
       let z = ok-inj (n₁ + length (ascii s)) k h in
-      let y = before-short (ascii s) w f in
+      let y = before-within (ascii s) w f in
       omega arith;
 }
 
