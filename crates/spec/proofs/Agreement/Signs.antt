@@ -73,9 +73,6 @@ sub-any = record { at = λ k h t. tt }
 pub sub-refl : {p : Class} → Sub p p
 sub-refl = record { at = λ k h t. t }
 
-pub sub-trans : {p q r : Class} → Sub p q → Sub q r → Sub p r
-sub-trans a b = record { at = λ k h t. b .at k h (a .at k h t) }
-
 pub sub-either : {p q r : Class} → Sub p r → Sub q r → Sub (p ∪ q) r
 sub-either {p} {q} {r} a b = record { at = λ k h t. go k h (p k) (q k) refl refl t }
   where

@@ -27,7 +27,7 @@ use Rattle.spec.proofs.Characters.Bytes.{all-high, high-head, high-tail
 use Rattle.spec.proofs.Division.Parts.{Filling, last, next, Premise}
 use Rattle.spec.proofs.Division.Quoting.{paired, quoting}
 use Rattle.spec.proofs.Dtd.Bodies.{del, delimited-del, refers-complete}
-use Rattle.spec.proofs.Dtd.Comments.{twice, no-twice, first-close}
+use Rattle.spec.proofs.Dtd.Comments.{twice, first-close, Shaped, shape}
 use Rattle.spec.proofs.Dtd.Tame.{within-external, within-attlist, within-entity, within-notation}
 use Rattle.spec.proofs.Wellformed.Names.{AsciiNames}
 
@@ -137,14 +137,11 @@ end-skip q [] r = later-zero (subset-end 0 q r)
 end-skip q (b ∷ x) r = ap (later 1) (end-skip q x r) ∙ later-suc (length x) (subset-end 0 q r)
 
 pub clear-comment : (x : List ℕ) → Comment x → Clear (subset-end 0 0) x
-unfolding Comment subset-end starts
+unfolding subset-end starts
 clear-comment x c r =
-    let t : List ℕ = c .second .left ++ c .second .second .left in
-    let e : x ≡ 60 ∷ 33 ∷ 45 ∷ 45 ∷ (t ++ (45 ∷ 45 ∷ 62 ∷ [])) =
-    c .split ∙ (λ i. c .first i ++ (c .second .split ∙ ap (λ (z : List ℕ). c .second .left ++ z) (c .second .second .split ∙ ap (λ (z : List ℕ). c .second .second .left ++ z) (c .second .second .second)) ∙ sym (append-assoc (c .second .left) (c .second .second .left) (45 ∷ 45 ∷ 62 ∷ []))) i) in
-    let n : twice t ≡ false = no-twice (c .second .second .left) (c .second .first) (c .second .second .first) in
-    ap (λ (z : List ℕ). subset-end 0 0 (z ++ r)) e ∙ ap (λ (z : List ℕ). subset-end 0 0 (60 ∷ 33 ∷ 45 ∷ 45 ∷ z)) (append-assoc t (45 ∷ 45 ∷ 62 ∷ []) r)
-    ∙ passed t n ∙ ap (λ (z : List ℕ). later (length z) (subset-end 0 0 r)) (sym e)
+    let s : Shaped x = shape x c in
+    ap (λ (z : List ℕ). subset-end 0 0 (z ++ r)) (s .is) ∙ ap (λ (z : List ℕ). subset-end 0 0 (60 ∷ 33 ∷ 45 ∷ 45 ∷ z)) (append-assoc (s .text) (45 ∷ 45 ∷ 62 ∷ []) r)
+    ∙ passed (s .text) (s .single) ∙ ap (λ (z : List ℕ). later (length z) (subset-end 0 0 r)) (sym (s .is))
   where
     passed : (t : List ℕ) → twice t ≡ false → subset-end 0 0 (60 ∷ 33 ∷ 45 ∷ 45 ∷ (t ++ (45 ∷ 45 ∷ 62 ∷ r))) ≡ later (length (60 ∷ 33 ∷ 45 ∷ 45 ∷ (t ++ (45 ∷ 45 ∷ 62 ∷ [])))) (subset-end 0 0 r)
     passed t n =

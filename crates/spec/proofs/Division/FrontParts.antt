@@ -191,11 +191,6 @@ outside b k w ih = by-close (one-of "]" b)
     by-close true = rw (leb-yes 1 (suc k) (omega arith))
     by-close false = by-mark (starts (ascii "<!--") (b ∷ w)) refl
 
-pub take-short : (k : ℕ) (w : List ℕ) → length (take k w) ≤ length w
-take-short zero w = omega arith
-take-short (suc k) [] = omega arith
-take-short (suc k) (b ∷ w) = let h : length (take k w) ≤ length w = take-short k w in omega arith
-
 -- the second part of the scan
 pub end-cut : (w : List ℕ) (s q k : ℕ) → subset-end s q (take k w) ≡ cut-off k (subset-end s q w)
 unfolding subset-end

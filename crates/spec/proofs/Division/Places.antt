@@ -63,6 +63,21 @@ rest-in i w s r h e =
     omega (arith, length-drop i w)
 
 module _ (D : Dialect) (A : AsciiNames D) where
+  -- the places of an entry y after white space s, where z and then r follow
+  record Reached (w : List ℕ) (i : ℕ) (s y z r : List ℕ) : Type 0 where
+    space-at : drop i w ≡ s ++ (y ++ (z ++ r))
+    entry-at : drop (i + length s) w ≡ y ++ (z ++ r)
+    entry-in : i + length s ≤ length w
+    rest-at : drop (i + length s + length y) w ≡ z ++ r
+    past-in : i + length s + length y ≤ length w
+
+  reached : {x : List ℕ} (w s y z r : List ℕ) (i : ℕ) → i ≤ length w → drop i w ≡ x ++ r → x ≡ s ++ (y ++ z) → Reached w i s y z r
+  reached w s y z r i h e p =
+      let e₁ : drop i w ≡ s ++ (y ++ (z ++ r)) = e ∙ ap (λ (q : List ℕ). q ++ r) p ∙ append-assoc s (y ++ z) r ∙ ap (λ (q : List ℕ). s ++ q) (append-assoc y z r) in
+      let e₂ : drop (i + length s) w ≡ y ++ (z ++ r) = rest-after i w s (y ++ (z ++ r)) e₁ in
+      let h₂ : i + length s ≤ length w = rest-in i w s (y ++ (z ++ r)) h e₁ in
+      record { space-at = e₁; entry-at = e₂; entry-in = h₂; rest-at = rest-after (i + length s) w y (z ++ r) e₂; past-in = rest-in (i + length s) w y (z ++ r) h₂ e₂ }
+
   fills-order : (es : List Entry) (w : List ℕ) (pe : Bool) (i j : ℕ) → Fills D w pe i j es → i ≤ j
   fills-order [] w pe i j (h, s) = h
   fills-order (e ∷ es) w pe i j (h, k, s, l, f) = let g : e .past ≤ j = fills-order es w (pe || refers (e .kind)) (e .past) j f in omega arith
@@ -85,17 +100,13 @@ module _ (D : Dialect) (A : AsciiNames D) where
   to-places : {pe : Bool} {x : List ℕ} (f : Filling D pe x) (w r : List ℕ) (i : ℕ) → i ≤ length w → drop i w ≡ x ++ r → Fills D w pe i (i + length x) (entries D i f)
   to-places {x = x} (last s) w r i h e = (omega arith, subst S? (sym (part-at i w x r h e)) s)
   to-places {pe} {x} (next k s y z p b l f) w r i h e =
-      let e₁ : drop i w ≡ s ++ (y ++ (z ++ r)) = e ∙ ap (λ (q : List ℕ). q ++ r) p ∙ append-assoc s (y ++ z) r ∙ ap (λ (q : List ℕ). s ++ q) (append-assoc y z r) in
-      let e₂ : drop (i + length s) w ≡ y ++ (z ++ r) = rest-after i w s (y ++ (z ++ r)) e₁ in
-      let h₂ : i + length s ≤ length w = rest-in i w s (y ++ (z ++ r)) h e₁ in
-      let e₃ : drop (i + length s + length y) w ≡ z ++ r = rest-after (i + length s) w y (z ++ r) e₂ in
-      let h₃ : i + length s + length y ≤ length w = rest-in (i + length s) w y (z ++ r) h₂ e₂ in
+      let o : Reached w i s y z r = reached w s y z r i h e p in
       let n : i + length s + length y + length z ≡ i + length x = omega (arith, ap length p, length-append s (y ++ z), length-append y z) in (
         omega arith,
         omega arith,
-        subst S? (sym (part-at i w s (y ++ (z ++ r)) h e₁)) b,
-        subst (entry-of D pe k) (sym (part-at (i + length s) w y (z ++ r) h₂ e₂)) l,
-        subst (λ (m : ℕ). Fills D w (pe || refers k) (i + length s + length y) m (entries D (i + length s + length y) f)) n (to-places f w r (i + length s + length y) h₃ e₃),
+        subst S? (sym (part-at i w s (y ++ (z ++ r)) h (o .space-at))) b,
+        subst (entry-of D pe k) (sym (part-at (i + length s) w y (z ++ r) (o .entry-in) (o .entry-at))) l,
+        subst (λ (m : ℕ). Fills D w (pe || refers k) (i + length s + length y) m (entries D (i + length s + length y) f)) n (to-places f w r (i + length s + length y) (o .past-in) (o .rest-at)),
       )
 
   -- the two kinds of division
@@ -159,12 +170,8 @@ module _ (D : Dialect) (A : AsciiNames D) where
   same-premise : (calm : List ℕ → Bool) {pe : Bool} {x : List ℕ} (f : Filling D pe x) (w r : List ℕ) (i : ℕ) → i ≤ length w → drop i w ≡ x ++ r → premise D calm w pe (entries D i f) ≡ Premise D calm f
   same-premise calm (last s) w r i h e = refl
   same-premise calm {pe} {x} (next k s y z p b l f) w r i h e =
-      let e₁ : drop i w ≡ s ++ (y ++ (z ++ r)) = e ∙ ap (λ (q : List ℕ). q ++ r) p ∙ append-assoc s (y ++ z) r ∙ ap (λ (q : List ℕ). s ++ q) (append-assoc y z r) in
-      let e₂ : drop (i + length s) w ≡ y ++ (z ++ r) = rest-after i w s (y ++ (z ++ r)) e₁ in
-      let h₂ : i + length s ≤ length w = rest-in i w s (y ++ (z ++ r)) h e₁ in
-      let e₃ : drop (i + length s + length y) w ≡ z ++ r = rest-after (i + length s) w y (z ++ r) e₂ in
-      let h₃ : i + length s + length y ≤ length w = rest-in (i + length s) w y (z ++ r) h₂ e₂ in
-      (λ t. premised D calm pe k (part-at (i + length s) w y (z ++ r) h₂ e₂ t) && same-premise calm f w r (i + length s + length y) h₃ e₃ t)
+      let o : Reached w i s y z r = reached w s y z r i h e p in
+      (λ t. premised D calm pe k (part-at (i + length s) w y (z ++ r) (o .entry-in) (o .entry-at) t) && same-premise calm f w r (i + length s + length y) (o .past-in) (o .rest-at) t)
 
   -- a division that meets the premise, as parts that meet it
   record Calm (calm : List ℕ → Bool) {w : List ℕ} (v : Division D w) : Type 0 where

@@ -11,7 +11,7 @@ use lib.ListN.{length}
 use Rattle.spec.specs.Basics.{pick}
 use Rattle.spec.specs.Grammar.Characters.{Text}
 use Rattle.spec.specs.Grammar.Declarations.{Comment}
-use Rattle.spec.specs.Grammar.Languages.{Lang, lit, Ch, _·_, _∣_, inl, inr, Star, end, more, Opt, any, none-of}
+use Rattle.spec.specs.Grammar.Languages.{Lang, lit, Ch, _·_, _∣_, inl, inr, Star, end, more, Opt, any, none-of, ascii}
 use Rattle.spec.specs.Grammar.Utf8.{encode}
 use Rattle.spec.specs.Reading.Dtd.{check-comment, parse-comment}
 use Rattle.spec.specs.Reading.Readers.{nothing, starts, choose, contains, before}
@@ -48,7 +48,7 @@ unfolding contains starts
 hyphen-first [] y h l = absurd (omega arith)
 hyphen-first (b ∷ x) y h l = rw (avoids-head 45 b x h)
 
-pub no-twice : {u : List ℕ} (o : List ℕ) → Star (Other ∣ (lit "-" · Other)) u → Opt (lit "-") o → twice (u ++ o) ≡ false
+no-twice : {u : List ℕ} (o : List ℕ) → Star (Other ∣ (lit "-" · Other)) u → Opt (lit "-") o → twice (u ++ o) ≡ false
 unfolding contains starts
 no-twice o (end e) (inl m) = (λ i. twice (e i ++ m i))
 no-twice o (end e) (inr n) = (λ i. twice (e i ++ n i))
@@ -126,3 +126,19 @@ comment-reads =
   where
     none : (u : List ℕ) → Unhyphened u → twice u ≡ false
     none u x = ap twice (x .split) ∙ no-twice (x .right) (x .first) (x .second)
+
+-- a comment is its text between "<!--" and "-->", and no two hyphens stand in a row in that text
+pub record Shaped (x : List ℕ) : Type 0 where
+  pub text : List ℕ
+  pub is : x ≡ ascii "<!--" ++ (text ++ ascii "-->")
+  pub single : twice text ≡ false
+
+pub shape : (x : List ℕ) → Comment x → Shaped x
+unfolding Comment
+shape x c =
+    let d : (Opt (lit "-") · lit "-->") (c .second .right) = c .second .second in
+    record {
+      text = c .second .left ++ d .left;
+      is = c .split ∙ (λ i. c .first i ++ (c .second .split ∙ ap (λ (z : List ℕ). c .second .left ++ z) (d .split ∙ ap (λ (z : List ℕ). d .left ++ z) (d .second)) ∙ sym (append-assoc (c .second .left) (d .left) (ascii "-->"))) i);
+      single = no-twice (d .left) (c .second .first) (d .first);
+    }

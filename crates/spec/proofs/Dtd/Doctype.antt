@@ -56,9 +56,6 @@ module _ (D : Dialect) (A : AsciiNames D) (M : Bool → Lang) (reads-markup : (p
   abbrev pub Tail : Lang
   Tail = Opt (S · ExternalID) · S? · Opt (lit "[" · Written D M · lit "]" · S?)
 
-  external-ahead : List ℕ → Bool
-  external-ahead w = starts (ascii "SYSTEM") w || starts (ascii "PUBLIC") w
-
   abbrev tail-reader : Reader
   tail-reader = skip-s >> choose (λ w. starts (ascii "SYSTEM") w || starts (ascii "PUBLIC") w) (parse-external-id >> skip-s) nothing >> on "[" (word "[" unexpected >> parse-internal-subset D >> skip-s) nothing >> at-end trailing
 

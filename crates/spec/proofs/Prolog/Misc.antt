@@ -29,7 +29,7 @@ use Rattle.spec.proofs.Base.Tests.{T→true, no→false, decide, leb-tr
 use Rattle.spec.proofs.Characters.Bytes.{avoids-all}
 use Rattle.spec.proofs.Characters.Text.{all-ascii, cat-size, plus-star}
 use Rattle.spec.proofs.Characters.Utf8.{encode-1, decode-1, decode-read, Read}
-use Rattle.spec.proofs.Dtd.Comments.{twice, no-twice, first-close}
+use Rattle.spec.proofs.Dtd.Comments.{twice, first-close, Shaped, shape}
 use Rattle.spec.proofs.Dtd.Instructions.{Unmarked, Inner, inner-free, reserved-xml, target-avoids}
 use Rattle.spec.proofs.Prolog.Turns.{moved, moved-moved, moved-none, next-space, next-comment, next-instruction}
 use Rattle.spec.proofs.Wellformed.Names.{AsciiNames}
@@ -104,14 +104,12 @@ pass-space u z s =
 
 -- a comment
 pass-comment : (u z : List ℕ) → Comment u → next-item (u ++ z) ≡ moved (length u) (next-item z)
-unfolding Comment
 pass-comment u z c =
-    let t : List ℕ = c .second .left ++ c .second .second .left in
-    let e : u ≡ 60 ∷ 33 ∷ 45 ∷ 45 ∷ (t ++ (45 ∷ 45 ∷ 62 ∷ [])) =
-    c .split ∙ (λ i. c .first i ++ (c .second .split ∙ ap (λ (z : List ℕ). c .second .left ++ z) (c .second .second .split ∙ ap (λ (z : List ℕ). c .second .second .left ++ z) (c .second .second .second)) ∙ sym (append-assoc (c .second .left) (c .second .second .left) (45 ∷ 45 ∷ 62 ∷ []))) i) in
-    let f : u ++ z ≡ 60 ∷ 33 ∷ 45 ∷ 45 ∷ (t ++ (45 ∷ 45 ∷ 62 ∷ z)) = ap (λ (x : List ℕ). x ++ z) e ∙ ap (λ (x : List ℕ). 60 ∷ 33 ∷ 45 ∷ 45 ∷ x) (append-assoc t (45 ∷ 45 ∷ 62 ∷ []) z) in
-    passed u z (length t + 7) (let n : length (60 ∷ 33 ∷ 45 ∷ 45 ∷ (t ++ (45 ∷ 45 ∷ 62 ∷ []))) ≡ length t + 7 = omega (arith, length-append t (45 ∷ 45 ∷ 62 ∷ [])) in ap length e ∙ n)
-    (subst (λ (x : List ℕ). next-item x ≡ moved (length t + 7) (next-item (drop (length t + 7) x))) (sym f) (one t (no-twice (c .second .second .left) (c .second .first) (c .second .second .first))))
+    let s : Shaped u = shape u c in
+    let t : List ℕ = s .text in
+    let f : u ++ z ≡ 60 ∷ 33 ∷ 45 ∷ 45 ∷ (t ++ (45 ∷ 45 ∷ 62 ∷ z)) = ap (λ (x : List ℕ). x ++ z) (s .is) ∙ ap (λ (x : List ℕ). 60 ∷ 33 ∷ 45 ∷ 45 ∷ x) (append-assoc t (45 ∷ 45 ∷ 62 ∷ []) z) in
+    passed u z (length t + 7) (let n : length (60 ∷ 33 ∷ 45 ∷ 45 ∷ (t ++ (45 ∷ 45 ∷ 62 ∷ []))) ≡ length t + 7 = omega (arith, length-append t (45 ∷ 45 ∷ 62 ∷ [])) in ap length (s .is) ∙ n)
+    (subst (λ (x : List ℕ). next-item x ≡ moved (length t + 7) (next-item (drop (length t + 7) x))) (sym f) (one t (s .single)))
   where
     one : (t : List ℕ) → twice t ≡ false → next-item (60 ∷ 33 ∷ 45 ∷ 45 ∷ (t ++ (45 ∷ 45 ∷ 62 ∷ z))) ≡ moved (length t + 7) (next-item (drop (length t + 7) (60 ∷ 33 ∷ 45 ∷ 45 ∷ (t ++ (45 ∷ 45 ∷ 62 ∷ z)))))
     one t h =

@@ -42,15 +42,17 @@ moved-none (other i) = ap other (plus-zero i)
 moved-none (cut-off i) = ap cut-off (plus-zero i)
 moved-none (cut-doctype i) = ap cut-doctype (plus-zero i)
 
--- one turn, where `go n` is what is found after n bytes
-abbrev turn : ℕ → List ℕ → (ℕ → Item) → Item
-turn k w go =
-    pick (ltb 0 (run space w)) (go (run space w))
-    (pick (starts (ascii "<!--") w) (onward k (word-at "-->" (drop 4 w)) (λ n. go (n + 7)))
+-- one turn, where `go n` is what is found after n bytes: white space, or what is none
+abbrev past-space : ℕ → List ℕ → (ℕ → Item) → Item
+past-space k w go =
+    pick (starts (ascii "<!--") w) (onward k (word-at "-->" (drop 4 w)) (λ n. go (n + 7)))
     (pick (is-declaration w) (declared k (word-at "?>" (drop 2 w)))
     (pick (starts (ascii "<?") w) (onward k (word-at "?>" (drop 2 w)) (λ n. go (n + 4)))
     (pick (starts (ascii "<!DOCTYPE") w) (docked k (doctype-end (drop 9 w)))
-    (other k)))))
+    (other k))))
+
+abbrev turn : ℕ → List ℕ → (ℕ → Item) → Item
+turn k w go = pick (ltb 0 (run space w)) (go (run space w)) (past-space k w go)
 
 a-turn : (d k : ℕ) (w : List ℕ) → item-fuel (suc d) k w ≡ turn k w (λ n. item-fuel d (k + n) (drop n w))
 unfolding item-fuel
@@ -129,39 +131,29 @@ module _ (w : List ℕ) where
   next-space h = next-turn w ∙ (rw (leb-yes 1 (run space w) h))
 
   module _ (s : run space w ≡ 0) where
-    past-space : next-item w
-        ≡ pick (starts (ascii "<!--") w) (onward 0 (word-at "-->" (drop 4 w)) (λ n. moved (n + 7) (next-item (drop (n + 7) w))))
-        (pick (is-declaration w) (declared 0 (word-at "?>" (drop 2 w)))
-        (pick (starts (ascii "<?") w) (onward 0 (word-at "?>" (drop 2 w)) (λ n. moved (n + 4) (next-item (drop (n + 4) w))))
-        (pick (starts (ascii "<!DOCTYPE") w) (docked 0 (doctype-end (drop 9 w))) (other 0))))
-    past-space =
-        next-turn w
-        ∙ ap (λ (m : ℕ). pick (ltb 0 m) (moved m (next-item (drop m w)))
-        (pick (starts (ascii "<!--") w) (onward 0 (word-at "-->" (drop 4 w)) (λ n. moved (n + 7) (next-item (drop (n + 7) w))))
-        (pick (is-declaration w) (declared 0 (word-at "?>" (drop 2 w)))
-        (pick (starts (ascii "<?") w) (onward 0 (word-at "?>" (drop 2 w)) (λ n. moved (n + 4) (next-item (drop (n + 4) w))))
-        (pick (starts (ascii "<!DOCTYPE") w) (docked 0 (doctype-end (drop 9 w))) (other 0)))))) s
+    no-space : next-item w ≡ past-space 0 w (λ n. moved n (next-item (drop n w)))
+    no-space = next-turn w ∙ ap (λ (m : ℕ). pick (ltb 0 m) (moved m (next-item (drop m w))) (past-space 0 w (λ n. moved n (next-item (drop n w))))) s
 
     pub next-comment : starts (ascii "<!--") w ≡ true → (n : ℕ) → word-at "-->" (drop 4 w) ≡ at n → next-item w ≡ moved (n + 7) (next-item (drop (n + 7) w))
-    next-comment c n e = past-space ∙ (rw (c, e))
+    next-comment c n e = no-space ∙ (rw (c, e))
 
     pub next-cut-comment : starts (ascii "<!--") w ≡ true → word-at "-->" (drop 4 w) ≡ nowhere → next-item w ≡ cut-off 0
-    next-cut-comment c e = past-space ∙ (rw (c, e))
+    next-cut-comment c e = no-space ∙ (rw (c, e))
 
     module _ (c : starts (ascii "<!--") w ≡ false) where
       pub next-declaration : is-declaration w ≡ true → next-item w ≡ declared 0 (word-at "?>" (drop 2 w))
-      next-declaration d = past-space ∙ (rw (c, d))
+      next-declaration d = no-space ∙ (rw (c, d))
 
       module _ (d : is-declaration w ≡ false) where
         pub next-instruction : starts (ascii "<?") w ≡ true → (n : ℕ) → word-at "?>" (drop 2 w) ≡ at n → next-item w ≡ moved (n + 4) (next-item (drop (n + 4) w))
-        next-instruction i n e = past-space ∙ (rw (c, d, i, e))
+        next-instruction i n e = no-space ∙ (rw (c, d, i, e))
 
         pub next-cut-instruction : starts (ascii "<?") w ≡ true → word-at "?>" (drop 2 w) ≡ nowhere → next-item w ≡ cut-off 0
-        next-cut-instruction i e = past-space ∙ (rw (c, d, i, e))
+        next-cut-instruction i e = no-space ∙ (rw (c, d, i, e))
 
         module _ (i : starts (ascii "<?") w ≡ false) where
           pub next-doctype : starts (ascii "<!DOCTYPE") w ≡ true → next-item w ≡ docked 0 (doctype-end (drop 9 w))
-          next-doctype t = past-space ∙ (rw (c, d, i, t))
+          next-doctype t = no-space ∙ (rw (c, d, i, t))
 
           pub next-other : starts (ascii "<!DOCTYPE") w ≡ false → next-item w ≡ other 0
-          next-other t = past-space ∙ (rw (c, d, i, t))
+          next-other t = no-space ∙ (rw (c, d, i, t))
