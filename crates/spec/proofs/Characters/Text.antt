@@ -21,7 +21,11 @@ star-append {v = v} (more x y e l s) t = more x (y ++ v) (ap (λ (z : List ℕ).
 pub star-one : {L : Lang} {u : List ℕ} → L u → Star L u
 star-one {u = u} l = more u [] (sym (append-nil u)) l (end refl)
 
--- of two parts: the size of the whole, and the whole with what stands after it
+-- one part after the other
+pub put : {L M : Lang} (u v : List ℕ) → L u → M v → (L · M) (u ++ v)
+put u v l m = record { left = u; right = v; split = refl; first = l; second = m }
+
+-- the size of the whole, and the whole with what stands after it
 pub cat-size : {L M : Lang} {u : List ℕ} (c : (L · M) u) → length u ≡ length (c .left) + length (c .right)
 cat-size c = ap length (c .split) ∙ length-append (c .left) (c .right)
 

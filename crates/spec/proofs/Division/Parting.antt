@@ -1,5 +1,6 @@
 -- The grammar divides the internal subset into entries, and in one way only. Assumes nothing.
 use mathlib.Core.Logic
+use Rattle.spec.proofs.Characters.Text.{put}
 use Rattle.spec.proofs.Dtd.Subset.{Items, refer, declare, written}
 use Rattle.spec.proofs.Dtd.Subset as Subset
 use mathlib.Core.Bool.{Bool, true, false, _||_, or-false, or-true}
@@ -201,22 +202,7 @@ module _ (D : Dialect) (A : AsciiNames D) where
 
       from-parts : Front D w ⊎ Parts D w → doctypedecl D w
       from-parts (Logic.inl f) = front-first .to w (record { left = w; right = []; split = sym (append-nil w); first = f; second = inr refl })
-      from-parts (Logic.inr d) = front-first .to w (record {
-        left = d .front;
-        right = ascii "[" ++ (d .inner ++ (ascii "]" ++ d .back));
-        split = d .split;
-        first = d .heads;
-        second = inl (record {
-          left = ascii "[";
-          right = d .inner ++ (ascii "]" ++ d .back);
-          split = refl;
-          first = refl;
-          second = record {
-            left = d .inner;
-            right = ascii "]" ++ d .back;
-            split = refl;
-            first = unfold intSubset in written D (markupdecl D) .to (d .inner) (of-filling (d .fills));
-            second = record { left = ascii "]"; right = d .back; split = refl; first = refl; second = d .ends };
-          };
-        });
-      })
+      from-parts (Logic.inr d) =
+          let inner : intSubset D (d .inner) = unfold intSubset in written D (markupdecl D) .to (d .inner) (of-filling (d .fills)) in
+          let bracket : Bracket (ascii "[" ++ (d .inner ++ (ascii "]" ++ d .back))) = put (ascii "[") _ refl (put (d .inner) _ inner (put (ascii "]") (d .back) refl (d .ends))) in
+          front-first .to w (subst (Front D · Opt Bracket) (sym (d .split)) (put (d .front) _ (d .heads) (inl bracket)))

@@ -26,7 +26,7 @@ use Rattle.spec.proofs.Agreement.Whole.{Whole}
 use Rattle.spec.proofs.Base.Results.{err-ok, ok-inj, on-ok-ok, past-ok}
 use Rattle.spec.proofs.Base.Tests.{true→T, eqb-yes, eqb-true, eqb-no, or-cases, and-left, and-right, one-sign, two-signs, none-sub, not-true, T→true, or-false-left, or-false-right}
 use Rattle.spec.proofs.Characters.Bytes.{all-high, high-head, high-tail, avoids, avoids-append, avoids-high, class-avoids, avoids-class, text-front, not-one, avoids-head, avoids-tail, Sized, low, high, sized}
-use Rattle.spec.proofs.Characters.Text.{text-rest, ascii-text, star-one, reclass}
+use Rattle.spec.proofs.Characters.Text.{text-rest, ascii-text, star-one, reclass, put}
 use Rattle.spec.proofs.Characters.Utf8.{decode-read, Read}
 
 -- the bytes of a body, by the open quote or 0: no '>' outside quotes, and no quote left open
@@ -146,26 +146,19 @@ Delimits (suc q) u = Open (suc q) u
 -- a quote, its inside and the quote again
 literal : (b : ℕ) (u : List ℕ) → (b ≡ 34) ⊎ (b ≡ 39) → Open b u → Star (Ch (none-of "\"'>") ∣ SystemLiteral) (b ∷ u)
 unfolding SystemLiteral
-literal b u (Logic.inl e) o =
-    more (b ∷ (o .inside ++ (34 ∷ []))) (o .rest) (ap (λ (z : List ℕ). b ∷ z) (o .split ∙ ap (λ (z : ℕ). o .inside ++ z ∷ o .rest) e ∙ sym (append-assoc (o .inside) (34 ∷ []) (o .rest))))
-    (inr (inl (record {
-      left = b ∷ [];
-      right = o .inside ++ (34 ∷ []);
-      split = refl;
-      first = ap (λ (z : ℕ). z ∷ []) e;
-      second = record { left = o .inside; right = 34 ∷ []; split = refl; first = avoids-class any (none-of "\"") 34 (omega arith) (λ c t. not-one 34 c) (o .text) (ap (λ (z : ℕ). avoids z (o .inside)) (sym e) ∙ o .free); second = refl };
-    })))
-    (o .body)
-literal b u (Logic.inr e) o =
-    more (b ∷ (o .inside ++ (39 ∷ []))) (o .rest) (ap (λ (z : List ℕ). b ∷ z) (o .split ∙ ap (λ (z : ℕ). o .inside ++ z ∷ o .rest) e ∙ sym (append-assoc (o .inside) (39 ∷ []) (o .rest))))
-    (inr (inr (record {
-      left = b ∷ [];
-      right = o .inside ++ (39 ∷ []);
-      split = refl;
-      first = ap (λ (z : ℕ). z ∷ []) e;
-      second = record { left = o .inside; right = 39 ∷ []; split = refl; first = avoids-class any (none-of "'") 39 (omega arith) (λ c t. not-one 39 c) (o .text) (ap (λ (z : ℕ). avoids z (o .inside)) (sym e) ∙ o .free); second = refl };
-    })))
-    (o .body)
+literal b u which o = go which
+  where
+    seam : (a : ℕ) → b ≡ a → b ∷ u ≡ (b ∷ (o .inside ++ (a ∷ []))) ++ o .rest
+    seam a e = ap (λ (z : List ℕ). b ∷ z) (o .split ∙ ap (λ (z : ℕ). o .inside ++ z ∷ o .rest) e ∙ sym (append-assoc (o .inside) (a ∷ []) (o .rest)))
+
+    quoted : (a : ℕ) → a < 128 → b ≡ a → ((λ x. x ≡ a ∷ []) · Star (Ch (λ c. not (eqb c a || false))) · (λ x. x ≡ a ∷ [])) (b ∷ (o .inside ++ (a ∷ [])))
+    quoted a l e =
+        put (b ∷ []) (o .inside ++ (a ∷ [])) (ap (λ (z : ℕ). z ∷ []) e)
+        (put (o .inside) (a ∷ []) (avoids-class any (λ c. not (eqb c a || false)) a l (λ c t. not-one a c) (o .text) (ap (λ (z : ℕ). avoids z (o .inside)) (sym e) ∙ o .free)) refl)
+
+    go : (b ≡ 34) ⊎ (b ≡ 39) → Star (Ch (none-of "\"'>") ∣ SystemLiteral) (b ∷ u)
+    go (Logic.inl e) = more (b ∷ (o .inside ++ (34 ∷ []))) (o .rest) (seam 34 e) (inr (inl (quoted 34 (omega arith) e))) (o .body)
+    go (Logic.inr e) = more (b ∷ (o .inside ++ (39 ∷ []))) (o .rest) (seam 39 e) (inr (inr (quoted 39 (omega arith) e))) (o .body)
 
 plain-char : (c : ℕ) → one-of ">" c ≡ false → one-of "\"'" c ≡ false → T (none-of "\"'>" c)
 plain-char c e f =

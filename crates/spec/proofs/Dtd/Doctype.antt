@@ -1,7 +1,7 @@
 -- The whole DOCTYPE, over any reader of its declarations. Assumes nothing.
 use mathlib.Core.Logic
 use mathlib.Core.Bool.{Bool, true, false, _||_, true≢false, or-true}
-use mathlib.Core.List.{List, [], _∷_, _++_, append-assoc, append-nil}
+use mathlib.Core.List.{List, [], _∷_, _++_, append-nil}
 use mathlib.Core.Logic.{_⊎_}
 use mathlib.Core.Path.{_≡_, refl, sym, _∙_, ap, subst}
 use Prim.Native.Nat.{ℕ, suc}
@@ -11,7 +11,7 @@ use lib.ListN.{length, drop}
 use lib.Seq.{drop-drop}
 use Rattle.spec.specs.Basics.{pick}
 use Rattle.spec.specs.Grammar.Characters.{Text, S, S?, space}
-use Rattle.spec.specs.Grammar.Languages.{Lang, lit, ascii, _·_, _∣_, inl, inr, end, more, Opt, any, one-of}
+use Rattle.spec.specs.Grammar.Languages.{Lang, lit, ascii, _·_, _∣_, inl, inr, Opt, any, one-of}
 use Rattle.spec.specs.Grammar.Literals.{ExternalID}
 use Rattle.spec.specs.Grammar.Names.{Dialect, Name}
 use Rattle.spec.specs.Reading.Dtd.{skip-s, parse-external-id, parse-markup-decl, parse-internal-subset, check-doctype}
@@ -19,7 +19,7 @@ use Rattle.spec.specs.Reading.Readers.{ok, Reader, _>>_, nothing, at-end
 use Rattle.spec.specs.Reading.Refusals.{bad-name, unexpected, trailing}
 use Rattle.spec.specs.Reading.Utf8.{decode1}
 use Rattle.spec.specs.Reading.Wellformed.{parts, name}
-use Rattle.spec.proofs.Agreement.Algebra.{ε, same, _then_, cat₂, either, assoc, none-after}
+use Rattle.spec.proofs.Agreement.Algebra.{ε, same, _then_, cat₂, either, assoc, none-after, over-left, over-right, none-before, plus-or-none, back, cat, swap, regroup}
 use Rattle.spec.proofs.Agreement.Choices.{on-word, empty-reads}
 use Rattle.spec.proofs.Agreement.Reads.{Took, Leads, Reads, Next, sound-seq, complete-seq, seq, alt, _≅_, weaken, drop-took, sound-after}
 use Rattle.spec.proofs.Agreement.Runs.{not-space, skip, need}
@@ -53,8 +53,11 @@ module _ (D : Dialect) (A : AsciiNames D) (M : Bool → Lang) (reads-markup : (p
   abbrev Raw : Lang
   Raw = S? · ((ExternalID · S?) ∣ ε) · (In-brackets ∣ ε) · ε
 
+  abbrev Bracketed : Lang
+  Bracketed = Opt (lit "[" · Written D M · lit "]" · S?)
+
   abbrev pub Tail : Lang
-  Tail = Opt (S · ExternalID) · S? · Opt (lit "[" · Written D M · lit "]" · S?)
+  Tail = Opt (S · ExternalID) · S? · Bracketed
 
   abbrev tail-reader : Reader
   tail-reader = skip-s >> choose (λ w. starts (ascii "SYSTEM") w || starts (ascii "PUBLIC") w) (parse-external-id >> skip-s) nothing >> on "[" (word "[" unexpected >> parse-internal-subset D >> skip-s) nothing >> at-end trailing
@@ -99,89 +102,50 @@ module _ (D : Dialect) (A : AsciiNames D) (M : Bool → Lang) (reads-markup : (p
       go true e h = rw (decode-1 b w (leb-true (suc b) 128 e)) (is-part (two-signs 83 80 b (T→true (one-of "SP" b) h)))
       go false e h = absurd h
 
-  bracket : ((In-brackets ∣ ε) · ε) ≅ Opt (lit "[" · Written D M · lit "]" · S?)
+  bracket : ((In-brackets ∣ ε) · ε) ≅ Bracketed
   bracket = none-after then either (cat₂ assoc) same
 
+  -- what is read is what is written, or has an external identifier directly after the name
+  tail-split : Tail ≅ ((S · ExternalID · S? · Bracketed) ∣ (S? · Bracketed))
+  tail-split = over-left then either assoc none-before
+
+  raw-tail : Raw ≅ (Tail ∣ (ExternalID · S? · Bracketed))
+  raw-tail =
+      cat₂ (cat₂ bracket then over-left then either assoc none-before) then over-right then either some-space same
+      then back regroup then either same swap then regroup then either (back tail-split) same
+    where
+      some-space : {X : Lang} → (S? · X) ≅ ((S · X) ∣ X)
+      some-space = unfold S S? in (cat (back plus-or-none) same then over-left then either same none-before)
+
   tail-of : (w : List ℕ) → begins (D .part) w ≡ false → Raw w → Tail w
-  unfolding S S?
-  tail-of w n c = go (c .left) (c .first) (c .split) (c .second .left) (c .second .first) (c .second .split)
+  tail-of w n c = go (raw-tail .to w c)
     where
-      z : Opt (lit "[" · Written D M · lit "]" · S?) (c .second .right)
-      z = bracket .to (c .second .right) (c .second .second)
-
-      go : (x : List ℕ) → S? x → w ≡ x ++ c .right → (y : List ℕ) → ((ExternalID · S?) ∣ ε) y → c .right ≡ y ++ c .second .right → Tail w
-      go x s e y (inr o) f = record {
-        left = [];
-        right = w;
-        split = refl;
-        first = inr refl;
-        second = record { left = x; right = c .second .right; split = e ∙ ap (λ (q : List ℕ). x ++ q) (f ∙ ap (λ (q : List ℕ). q ++ c .second .right) o); first = s; second = z };
-      }
-      go x (end g) e y (inl l) f =
-          absurd (true≢false (sym (named w (subst (λ (q : List ℕ). T (one-of "SP" (kind q)))
-          (sym (e ∙ (λ i. g i ++ f i) ∙ ap (λ (q : List ℕ). q ++ c .second .right) (l .split) ∙ append-assoc (l .left) (l .right) (c .second .right)))
-          (external-id-reads .leads (l .left) (l .right ++ c .second .right) (l .first) (record { it = tt })))) ∙ n))
-      go x (more a b g h s) e y (inl l) f = record {
-        left = x ++ l .left;
-        right = l .right ++ c .second .right;
-        split = e ∙ ap (λ (q : List ℕ). x ++ q) (f ∙ ap (λ (q : List ℕ). q ++ c .second .right) (l .split) ∙ append-assoc (l .left) (l .right) (c .second .right)) ∙ sym (append-assoc x (l .left) (l .right ++ c .second .right));
-        first = inl (record { left = x; right = l .left; split = refl; first = record { left = a; right = b; split = g; first = h; second = s }; second = l .first });
-        second = record { left = l .right; right = c .second .right; split = refl; first = l .second; second = z };
-      }
-
-  raw-of : (w : List ℕ) → Tail w → Raw w
-  unfolding S S?
-  raw-of w c = go (c .left) (c .first) (c .split)
-    where
-      z : ((In-brackets ∣ ε) · ε) (c .second .right)
-      z = bracket .from (c .second .right) (c .second .second)
-
-      go : (x : List ℕ) → Opt (S · ExternalID) x → w ≡ x ++ c .right → Raw w
-      go x (inr o) e = record {
-        left = c .second .left;
-        right = c .second .right;
-        split = e ∙ (λ i. o i ++ c .second .split i);
-        first = c .second .first;
-        second = record { left = []; right = c .second .right; split = refl; first = inr refl; second = z };
-      }
-      go x (inl l) e =
-          let s : List ℕ = l .left in
-          let y : List ℕ = l .right in
-          record {
-            left = s;
-            right = (y ++ c .second .left) ++ c .second .right;
-            split = e ∙ (λ i. l .split i ++ c .second .split i) ∙ append-assoc s y (c .second .left ++ c .second .right) ∙ ap (λ (q : List ℕ). s ++ q) (sym (append-assoc y (c .second .left) (c .second .right)));
-            first = more (l .first .left) (l .first .right) (l .first .split) (l .first .first) (l .first .second);
-            second = record {
-              left = y ++ c .second .left;
-              right = c .second .right;
-              split = refl;
-              first = inl (record { left = y; right = c .second .left; split = refl; first = l .second; second = c .second .first });
-              second = z;
-            };
-          }
+      go : (Tail ∣ (ExternalID · S? · Bracketed)) w → Tail w
+      go (inl t) = t
+      go (inr l) = absurd (true≢false (sym (named w (subst (λ (q : List ℕ). T (one-of "SP" (kind q))) (sym (l .split)) (external-id-reads .leads (l .left) (l .right) (l .first) (record { it = tt })))) ∙ n))
 
   -- what may follow a name
   abbrev tail-after : Class
   tail-after k = space k || before-end k
 
   tail-leads : Leads Tail (Next stop) tail-after
-  tail-leads u v c t = go (c .left) (c .first) (c .split)
+  tail-leads u v c t = go (tail-split .to u c)
     where
-      z : (x : List ℕ) → Opt (lit "[" · Written D M · lit "]" · S?) x → T (before-end (kind (x ++ v)))
+      z : (x : List ℕ) → Bracketed x → T (before-end (kind (x ++ v)))
       z x (inl l) = sub-at (first-of "[") before-end (by-signs tt) (x ++ v)
           (subst (λ (q : List ℕ). T (first-of "[" (kind q))) (sym (cat-before l v)) (wd "[" unexpected tt .leads (l .left) (l .right ++ v) (l .first) (record { it = tt })))
       z x (inr o) = sub-at stop before-end (by-signs tt) (x ++ v) (subst (λ (q : List ℕ). T (stop (kind (q ++ v)))) (sym o) (t .it))
 
-      go : (x : List ℕ) → Opt (S · ExternalID) x → u ≡ x ++ c .right → T (tail-after (kind (u ++ v)))
-      go x (inl l) e =
+      go : ((S · ExternalID · S? · Bracketed) ∣ (S? · Bracketed)) u → T (tail-after (kind (u ++ v)))
+      go (inl l) =
+          let i : (ExternalID · S? · Bracketed) (l .right) = l .second in
           sub-at space tail-after (by-signs tt) (u ++ v)
-          (subst (λ (q : List ℕ). T (space (kind q))) (sym (ap (λ (q : List ℕ). q ++ v) (e ∙ ap (λ (q : List ℕ). q ++ c .right) (l .split) ∙ append-assoc (l .left) (l .right) (c .right)) ∙ append-assoc (l .left) (l .right ++ c .right) v))
-          (need (one-of "SP") (by-signs tt) .leads (l .left) ((l .right ++ c .right) ++ v) (l .first)
-          (record { it = subst (λ (q : List ℕ). T (one-of "SP" (kind q))) (sym (append-assoc (l .right) (c .right) v)) (external-id-reads .leads (l .right) (c .right ++ v) (l .second) (record { it = tt })) })))
-      go x (inr o) e =
-          subst (λ (q : List ℕ). T (tail-after (kind q))) (sym (ap (λ (q : List ℕ). q ++ v) (e ∙ (λ i. o i ++ c .second .split i)) ∙ append-assoc (c .second .left) (c .second .right) v))
-          (skip before-end (by-signs tt) .leads (c .second .left) (c .second .right ++ v) (c .second .first) (record { it = z (c .second .right) (c .second .second) }))
+          (subst (λ (q : List ℕ). T (space (kind q))) (sym (cat-before l v))
+          (need (one-of "SP") (by-signs tt) .leads (l .left) (l .right ++ v) (l .first)
+          (record { it = subst (λ (q : List ℕ). T (one-of "SP" (kind q))) (sym (cat-before i v)) (external-id-reads .leads (i .left) (i .right ++ v) (i .first) (record { it = tt })) })))
+      go (inr l) =
+          subst (λ (q : List ℕ). T (tail-after (kind q))) (sym (cat-before l v))
+          (skip before-end (by-signs tt) .leads (l .left) (l .right ++ v) (l .first) (record { it = z (l .right) (l .second) }))
 
   tail-ends : Ends tail-reader
   tail-ends = ends-seq _ _ (ends-seq _ _ (ends-seq _ _ (ends-at-end trailing)))
@@ -198,7 +162,7 @@ module _ (D : Dialect) (A : AsciiNames D) (M : Bool → Lang) (reads-markup : (p
     sound = sound-seq skip-s _ S? (Name D · Tail) (skip not-space sub-refl .sound)
         (sound-after (λ w. begins (D .part) w ≡ false) (name D) tail-reader (Name D) Tail (name-reads D A .sound) (munch D A) tail-sound);
     complete = complete-seq skip-s _ S? (Name D · Tail) (Next start-first) (Next stop) (skip start-first (by-signs tt) .complete)
-        (complete-seq (name D) tail-reader (Name D) Tail (Next ends-name) (Next stop) (name-reads D A .complete) (λ u v c t. raw-reads .complete u v (raw-of u c) t) meet)
+        (complete-seq (name D) tail-reader (Name D) Tail (Next ends-name) (Next stop) (name-reads D A .complete) (λ u v c t. raw-reads .complete u v (raw-tail .from u (inl c)) t) meet)
         (λ u v c t. record { it = subst (λ (q : List ℕ). T (start-first (kind q))) (sym (cat-before c v)) (name-reads D A .leads (c .left) (c .right ++ v) (c .first) (meet (c .right) v (c .second) t)) });
     leads = λ u v c t. tt;
   }

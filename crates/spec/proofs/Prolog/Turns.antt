@@ -78,20 +78,17 @@ module _ (k j : ℕ) (w : List ℕ) (go og : ℕ → Item) (alike : (n : ℕ) �
       (λ t. doctype (a t) (b t))
   docked-moved nowhere = refl
 
+  pick-moved : (t : Bool) (x y x' y' : Item) → (t ≡ true → x ≡ moved k x') → y ≡ moved k y' → pick t x y ≡ moved k (pick t x' y')
+  pick-moved true x y x' y' e f = e refl
+  pick-moved false x y x' y' e f = f
+
   turn-moved : turn (k + j) w go ≡ moved k (turn j w og)
-  turn-moved = by-space (ltb 0 (run space w)) refl (starts (ascii "<!--") w) (is-declaration w) (starts (ascii "<?") w) (starts (ascii "<!DOCTYPE") w)
-    where
-      by-space : (s : Bool) → ltb 0 (run space w) ≡ s → (a b c d : Bool)
-          → pick s (go (run space w)) (pick a (onward (k + j) (word-at "-->" (drop 4 w)) (λ n. go (n + 7))) (pick b (declared (k + j) (word-at "?>" (drop 2 w)))
-          (pick c (onward (k + j) (word-at "?>" (drop 2 w)) (λ n. go (n + 4))) (pick d (docked (k + j) (doctype-end (drop 9 w))) (other (k + j))))))
-          ≡ moved k (pick s (og (run space w)) (pick a (onward j (word-at "-->" (drop 4 w)) (λ n. og (n + 7))) (pick b (declared j (word-at "?>" (drop 2 w)))
-          (pick c (onward j (word-at "?>" (drop 2 w)) (λ n. og (n + 4))) (pick d (docked j (doctype-end (drop 9 w))) (other j))))))
-      by-space true e a b c d = alike (run space w) (leb-true 1 (run space w) e)
-      by-space false e true b c d = onward-moved (word-at "-->" (drop 4 w)) 7 (omega arith)
-      by-space false e false true c d = declared-moved (word-at "?>" (drop 2 w))
-      by-space false e false false true d = onward-moved (word-at "?>" (drop 2 w)) 4 (omega arith)
-      by-space false e false false false true = docked-moved (doctype-end (drop 9 w))
-      by-space false e false false false false = refl
+  turn-moved =
+      pick-moved (ltb 0 (run space w)) _ _ _ _ (λ e. alike (run space w) (leb-true 1 (run space w) e))
+      (pick-moved (starts (ascii "<!--") w) _ _ _ _ (λ _. onward-moved (word-at "-->" (drop 4 w)) 7 (omega arith))
+      (pick-moved (is-declaration w) _ _ _ _ (λ _. declared-moved (word-at "?>" (drop 2 w)))
+      (pick-moved (starts (ascii "<?") w) _ _ _ _ (λ _. onward-moved (word-at "?>" (drop 2 w)) 4 (omega arith))
+      (pick-moved (starts (ascii "<!DOCTYPE") w) _ _ _ _ (λ _. docked-moved (doctype-end (drop 9 w))) refl))))
 
 -- the fuel does not matter where it is more than the bytes
 enough : (d e k j : ℕ) (w : List ℕ) → length w < d → length w < e → item-fuel d (k + j) w ≡ moved k (item-fuel e j w)
