@@ -175,6 +175,13 @@ regroup {L} {M} {N} = record { to = λ w x. go x; from = λ w x. og x }
     og (inl (inr m)) = inr (inl m)
     og (inr n) = inr (inr n)
 
+-- the first of three alternatives after the second, and none at all in front of the others
+pub sink : {L M N : Lang} → (L ∣ M ∣ N) ≅ (M ∣ L ∣ N)
+sink = regroup then either swap same then back regroup
+
+pub no-first : {L : Lang} → ((λ w. ⊥) ∣ L) ≅ L
+no-first = swap then no-other
+
 pub none-before : {L : Lang} → (ε · L) ≅ L
 none-before {L} = record {
   to = λ w c. subst L (sym (c .split ∙ ap (λ (x : List ℕ). x ++ c .right) (c .first))) (c .second);

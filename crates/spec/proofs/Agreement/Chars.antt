@@ -2,7 +2,7 @@
 use mathlib.Core.Logic
 use mathlib.Core.Bool.{Bool, true, false}
 use mathlib.Core.List.{List, [], _∷_, _++_}
-use mathlib.Core.Logic.{_⊎_}
+use mathlib.Core.Logic.{⊎-elim}
 use mathlib.Core.Path.{_≡_, refl}
 use Prim.Native.Nat.{ℕ, suc, _+_, _<_, _/_, _≤_}
 use native.Mathlib.Omega.{arith}
@@ -10,7 +10,7 @@ use lib.Dec.{T, ltb}
 use lib.ListN.{length}
 use Rattle.spec.specs.Basics.{pick}
 use Rattle.spec.specs.Grammar.Characters.{Text}
-use Rattle.spec.specs.Grammar.Languages.{Ch, inl, inr, any}
+use Rattle.spec.specs.Grammar.Languages.{Ch, any}
 use Rattle.spec.specs.Grammar.Utf8.{scalar, encode}
 use Rattle.spec.specs.Reading.Readers.{ok, begins, char}
 use Rattle.spec.specs.Reading.Refusals.{Refusal}
@@ -50,11 +50,8 @@ begins-ch p u v c = rw (c .bytes, decode-encode (c .char) v (T→true (scalar (c
 pub begins-stop : (p : ℕ → Bool) (q : Class) → (T (q 128) → ⊥) → ((b : ℕ) → b < 128 → T (q b) → p b ≡ false) → (v : List ℕ) → T (q (kind v)) → begins p v ≡ false
 unfolding begins decode1 kind
 begins-stop p q no128 small [] h = refl
-begins-stop p q no128 small (b ∷ v) h = go (decide (ltb b 128))
-  where
-    go : (ltb b 128 ≡ true) ⊎ (ltb b 128 ≡ false) → begins p (b ∷ v) ≡ false
-    go (Logic.inl e) = rw (decode-1 b v (leb-true (suc b) 128 e)) (small b (leb-true (suc b) 128 e) (rw e at h))
-    go (Logic.inr e) = absurd (no128 (rw e at h))
+begins-stop p q no128 small (b ∷ v) h =
+    ⊎-elim (λ e. rw (decode-1 b v (leb-true (suc b) 128 e)) (small b (leb-true (suc b) 128 e) (rw e at h))) (λ e. absurd (no128 (rw e at h))) (decide (ltb b 128))
 
 pub one-char : (p : ℕ → Bool) (n : Refusal) (f : Class) → ((c : ℕ) → T (p c) → T (f (sign c))) → Reads (char p n) (Ch p) (Next any) f
 unfolding char Text

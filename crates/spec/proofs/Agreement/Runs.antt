@@ -1,18 +1,18 @@
 -- Runs of bytes of an ASCII class, and white space. Assumes nothing.
 use mathlib.Core.Logic
-use mathlib.Core.Bool.{Bool, true, false, not, true≢false, _||_}
+use mathlib.Core.Bool.{Bool, true, false, not, _||_}
 use mathlib.Core.List.{List, [], _∷_, _++_, append-assoc, append-nil}
-use mathlib.Core.Logic.{_⊎_, ⊎-elim}
+use mathlib.Core.Logic.{⊎-elim}
 use mathlib.Core.Path.{_≡_, refl, sym, _∙_, ap, subst}
 use Prim.Native.Nat.{ℕ, suc, _+_, _<_}
 use native.Mathlib.Omega.{arith}
 use borrow.Author.Tests.{eqb-false}
-use lib.Dec.{T, ltb, eqb, eqb→eq}
+use lib.Dec.{T, ltb, eqb, eqb→eq, T-not}
 use lib.ListN.{length, drop, length-append, drop-of-length-le}
 use lib.Seq.{drop-append-seam}
 use Rattle.spec.specs.Basics.{pick, within}
 use Rattle.spec.specs.Grammar.Characters.{Text, space, S, S?}
-use Rattle.spec.specs.Grammar.Languages.{Lang, ascii, Ch, inl, inr, Star, end, more, Plus, any, among, _·_}
+use Rattle.spec.specs.Grammar.Languages.{Lang, ascii, Ch, Star, end, more, Plus, any, among, _·_}
 use Rattle.spec.specs.Reading.Dtd.{skip-s, require-s}
 use Rattle.spec.specs.Reading.Readers.{ok, err, Reader, run, required, char}
 use Rattle.spec.specs.Reading.Refusals.{Refusal, no-space}
@@ -20,7 +20,7 @@ use Rattle.spec.proofs.Agreement.Chars.{kind-encode, sign, ch-some}
 use Rattle.spec.proofs.Agreement.Reads.{Took, Reads, Next, Leads, took-as, took-none}
 use Rattle.spec.proofs.Agreement.Signs.{kind, kind-ascii, Class, Sub, sub-at, _∪_, in-left, in-right}
 use Rattle.spec.proofs.Base.Results.{ok-inj, on-ok-ok, unless-refused}
-use Rattle.spec.proofs.Base.Tests.{T→true, true→T, decide, leb-yes, leb-true, eqb-no, or-cases, within-hi, both-left, both-right}
+use Rattle.spec.proofs.Base.Tests.{T→true, true→T, leb-yes, leb-true, eqb-no, or-cases, within-hi, both-left, both-right, no→false}
 use Rattle.spec.proofs.Characters.Text.{ascii-char, text-rest, star-one, all-ascii, cat-size, plus-star, cat-before}
 use Rattle.spec.proofs.Characters.Utf8.{encode-1}
 
@@ -62,17 +62,10 @@ module _ (p : ℕ → Bool) (small : Small p) where
           }
 
   pub run-stop : (q : Class) → Sub q (λ k. not (p k)) → (v : List ℕ) → T (q (kind v)) → run p v ≡ 0
-  unfolding run kind
+  unfolding run
   run-stop q h [] t = refl
-  run-stop q h (b ∷ v) t = go (decide (p b))
-    where
-      go : (p b ≡ true) ⊎ (p b ≡ false) → run p (b ∷ v) ≡ 0
-      go (Logic.inr e) = rw e
-      go (Logic.inl e) =
-          let x : T (not (p (kind (b ∷ v)))) = sub-at q (λ k. not (p k)) h (b ∷ v) t in
-          let y : T (not (p b)) = rw (kind-ascii b v (small b (true→T (p b) e))) at x in
-          let z : not true ≡ true = ap not (sym e) ∙ T→true (not (p b)) y in
-          absurd (true≢false (sym z))
+  run-stop q h (b ∷ v) t =
+      rw (no→false (p b) (λ x. T-not (p b) (subst (λ (k : ℕ). T (not (p k))) (kind-ascii b v (small b x)) (sub-at q (λ k. not (p k)) h (b ∷ v) t)) x))
 
   pub run-complete : (q : Class) → Sub q (λ k. not (p k)) → {u : List ℕ} (v : List ℕ) → Star (Ch p) u → T (q (kind v)) → run p (u ++ v) ≡ length u
   unfolding run

@@ -2,14 +2,15 @@
 use mathlib.Core.Logic
 use mathlib.Core.Bool.{Bool, true, false, _&&_, _||_, not}
 use mathlib.Core.List.{List, [], _∷_}
-use mathlib.Core.Logic.{_⊎_}
-use mathlib.Core.Path.{_≡_, refl, _∙_, ap, subst}
+use mathlib.Core.Logic.{⊎-elim}
+use mathlib.Core.Path.{_≡_, refl, _∙_, ap}
 use Prim.Native.Nat.{ℕ, zero, suc, _<_}
 use native.Mathlib.Omega.{arith}
-use lib.Dec.{T, ltb, eqb, eqb-refl}
+use borrow.Author.Tests.{eqb-false}
+use lib.Dec.{T, ltb, eqb}
 use Rattle.spec.specs.Basics.{pick}
-use Rattle.spec.specs.Grammar.Languages.{inl, inr, any}
-use Rattle.spec.proofs.Base.Tests.{T→true, true→T, false→no, decide, leb-yes, leb-true, eqb-true, and-left, and-right}
+use Rattle.spec.specs.Grammar.Languages.{any}
+use Rattle.spec.proofs.Base.Tests.{T→true, true→T, decide, leb-yes, leb-true, eqb-true, and-left, and-right, or-cases}
 
 -- The sign that a text begins with: an ASCII byte, 128 for any other byte, 129 at the text's end. A class is a test of signs.
 unfoldable pub kind : List ℕ → ℕ
@@ -29,11 +30,9 @@ pub record Sub (p q : Class) : Type 0 where
 
 pub below-at : (n : ℕ) (f : Class) → below n f ≡ true → (k : ℕ) → k < n → f k ≡ true
 below-at zero f e k h = absurd (let z : k < 0 = h in omega arith)
-below-at (suc n) f e k h = go (below-at n f (and-right (f n) (below n f) e) k) (decide (eqb k n))
-  where
-    go : (k < n → f k ≡ true) → (eqb k n ≡ true) ⊎ (eqb k n ≡ false) → f k ≡ true
-    go next (Logic.inl x) = ap f (eqb-true k n x) ∙ and-left (f n) (below n f) e
-    go next (Logic.inr x) = next (let y : k ≡ n → ⊥ = λ z. false→no (eqb k n) x (subst (λ (m : ℕ). T (eqb k m)) z (eqb-refl k)) in omega arith)
+below-at (suc n) f e k h =
+    ⊎-elim (λ x. ap f (eqb-true k n x) ∙ and-left (f n) (below n f) e)
+    (λ x. let y : k ≡ n → ⊥ = eqb-false k n x in below-at n f (and-right (f n) (below n f) e) k (omega arith)) (decide (eqb k n))
 
 kind-below : (v : List ℕ) → kind v < 130
 unfolding kind
@@ -74,12 +73,7 @@ pub sub-refl : {p : Class} → Sub p p
 sub-refl = record { at = λ k h t. t }
 
 pub sub-either : {p q r : Class} → Sub p r → Sub q r → Sub (p ∪ q) r
-sub-either {p} {q} {r} a b = record { at = λ k h t. go k h (p k) (q k) refl refl t }
-  where
-    go : (k : ℕ) → k < 130 → (x y : Bool) → p k ≡ x → q k ≡ y → T (x || y) → T (r k)
-    go k h true y e f t = a .at k h (true→T (p k) e)
-    go k h false true e f t = b .at k h (true→T (q k) f)
-    go k h false false e f t = absurd t
+sub-either {p} {q} {r} a b = record { at = λ k h t. ⊎-elim (λ e. a .at k h (true→T (p k) e)) (λ e. b .at k h (true→T (q k) e)) (or-cases (p k) (q k) (T→true (p k || q k) t)) }
 
 -- an ASCII byte that stands first is the sign
 pub kind-ascii : (a : ℕ) (v : List ℕ) → a < 128 → kind (a ∷ v) ≡ a

@@ -2,7 +2,7 @@
 use mathlib.Core.Bool.{Bool, true, false}
 use mathlib.Core.List.{List}
 use mathlib.Core.Path.{_≡_, refl, ap}
-use Prim.Native.Nat.{ℕ, _+_, _<_}
+use Prim.Native.Nat.{ℕ, _+_, _<_, suc}
 use native.Mathlib.Omega.{arith}
 use lib.ListN.{drop}
 use Rattle.spec.specs.Basics.{pick}
@@ -14,6 +14,10 @@ err-ok n k e = let z : _≡_ {A = ℕ} 0 1 = cc in omega arith
 
 pub ok-inj : (n k : ℕ) → ok n ≡ ok k → n ≡ k
 ok-inj n k e = cc
+
+-- one byte more
+pub one-add : (n : ℕ) → 1 + n ≡ suc n
+one-add n = omega arith
 
 -- bytes taken before
 pub past-past : (j k : ℕ) (a : Result) → past j (past k a) ≡ past (j + k) a

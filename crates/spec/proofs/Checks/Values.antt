@@ -2,7 +2,7 @@
 use mathlib.Core.Logic
 use mathlib.Core.Bool.{Bool, true, false, _&&_, _||_, true≢false}
 use mathlib.Core.List.{List, [], _∷_, _++_, append-nil}
-use mathlib.Core.Logic.{_⊎_}
+use mathlib.Core.Logic.{⊎-elim}
 use mathlib.Core.Path.{_≡_, refl, sym, _∙_, ap, subst}
 use Prim.Native.Nat.{ℕ, _+_, _<_}
 use native.Mathlib.Omega.{arith}
@@ -139,11 +139,7 @@ yes-no-decides = record { answer = λ w t. (yes w, no w); text = texts-either (t
     is-no w = starts (ascii "no") w && eqb (length w) 2
 
     yes : (w : List ℕ) → is-yes-or-no w ≡ true → YesNo w
-    yes w e = go (or-cases (is-yes w) (is-no w) e)
-      where
-        go : (is-yes w ≡ true) ⊎ (is-no w ≡ true) → YesNo w
-        go (Logic.inl f) = inl (is-word (ascii "yes") w f)
-        go (Logic.inr f) = inr (is-word (ascii "no") w f)
+    yes w e = ⊎-elim (λ f. inl (is-word (ascii "yes") w f)) (λ f. inr (is-word (ascii "no") w f)) (or-cases (is-yes w) (is-no w) e)
 
     no : (w : List ℕ) → YesNo w → is-yes-or-no w ≡ true
     no w (inl e) = ap is-yes-or-no e

@@ -1,7 +1,7 @@
 -- The quick scan of a front part: it is fixed by the scan of the whole, whatever the text. Assumes nothing.
 use mathlib.Core.Bool.{Bool, true, false, _&&_, _||_, true≢false}
 use mathlib.Core.List.{List, [], _∷_}
-use mathlib.Core.Logic.{_⊎_, inl, inr}
+use mathlib.Core.Logic.{_⊎_, inl, inr, ⊎-elim}
 use mathlib.Core.Path.{_≡_, refl, sym, _∙_, ap, subst}
 use Prim.Native.Nat.{ℕ, zero, suc, _+_, _≤_, _<_}
 use native.Mathlib.Omega.{arith}
@@ -26,11 +26,9 @@ cut-zero nowhere = refl
 
 cut-later : (k : ℕ) (p : Place) → later 1 (cut-off k p) ≡ cut-off (suc k) (later 1 p)
 cut-later k nowhere = refl
-cut-later k (at i) = go (decide (ltb i k))
-  where
-    go : (ltb i k ≡ true) ⊎ (ltb i k ≡ false) → later 1 (pick (ltb i k) (at i) nowhere) ≡ pick (ltb (1 + i) (suc k)) (at (1 + i)) nowhere
-    go (inl e) = let h : i < k = leb-true (suc i) k e in rw (e, leb-yes (suc (1 + i)) (suc k) (omega arith))
-    go (inr e) = let h : k < suc i = leb-false (suc i) k e in rw (e, leb-no (suc (1 + i)) (suc k) (omega arith))
+cut-later k (at i) =
+    ⊎-elim (λ e. let h : i < k = leb-true (suc i) k e in rw (e, leb-yes (suc (1 + i)) (suc k) (omega arith)))
+    (λ e. let h : k < suc i = leb-false (suc i) k e in rw (e, leb-no (suc (1 + i)) (suc k) (omega arith))) (decide (ltb i k))
 
 pub nowhere-at : (i : ℕ) → nowhere ≡ at i → ⊥
 nowhere-at i e = let z : _≡_ {A = ℕ} 0 1 = cc in omega arith

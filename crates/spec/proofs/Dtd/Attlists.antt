@@ -18,7 +18,7 @@ use Rattle.spec.specs.Reading.Dtd.{skip-s, require-s, parse-quoted, chec
 use Rattle.spec.specs.Reading.Readers.{ok, Reader, _>>_, nothing, refuse, starts, on, word, run, while, required}
 use Rattle.spec.specs.Reading.Refusals.{no-space, unexpected}
 use Rattle.spec.specs.Reading.Wellformed.{name}
-use Rattle.spec.proofs.Agreement.Algebra.{same, back, _then_, cat, cat₂, assoc, starred, rotate, no-other}
+use Rattle.spec.proofs.Agreement.Algebra.{same, back, _then_, cat, cat₂, assoc, starred, rotate, no-other, either, sink}
 use Rattle.spec.proofs.Agreement.Choices.{on-word, empty-reads, refuse-reads}
 use Rattle.spec.proofs.Agreement.Loops.{loop, loop-by}
 use Rattle.spec.proofs.Agreement.Reads.{Reads, Next, Leads, seq, seq-by, alt, weaken, as-lang, _≅_}
@@ -92,36 +92,20 @@ module _ (D : Dialect) (A : AsciiNames D) where
           let y : length (l .left) ≡ 1 = ap length (l .first) in
           omega arith
 
+  -- the Rust's order of the words, and W3C's
   abbrev Rest : Lang
   Rest = listed (Nmtoken D)
 
   in-order : ((lit "NOTATION" · S · listed (Name D)) ∣ Words (tokenized) Rest) ≅ AttType D
   unfolding AttType
-  in-order = record { to = λ w x. go x; from = λ w x. og x }
+  in-order = lower (either same reversed then lower (lower (lower (lower (lower reversed)))))
     where
-      go : {w : List ℕ} → ((lit "NOTATION" · S · listed (Name D)) ∣ Words (tokenized) Rest) w → AttType D w
-      go (inl x) = inr (inr (inr (inr (inr (inr (inr (inr (inl x))))))))
-      go (inr (inl x)) = inl x
-      go (inr (inr (inl x))) = inr (inr (inr (inl x)))
-      go (inr (inr (inr (inl x)))) = inr (inr (inl x))
-      go (inr (inr (inr (inr (inl x))))) = inr (inl x)
-      go (inr (inr (inr (inr (inr (inl x)))))) = inr (inr (inr (inr (inl x))))
-      go (inr (inr (inr (inr (inr (inr (inl x))))))) = inr (inr (inr (inr (inr (inl x)))))
-      go (inr (inr (inr (inr (inr (inr (inr (inl x)))))))) = inr (inr (inr (inr (inr (inr (inr (inl x)))))))
-      go (inr (inr (inr (inr (inr (inr (inr (inr (inl x))))))))) = inr (inr (inr (inr (inr (inr (inl x))))))
-      go (inr (inr (inr (inr (inr (inr (inr (inr (inr x))))))))) = inr (inr (inr (inr (inr (inr (inr (inr (inr x))))))))
+      -- the first alternative goes down past the second
+      lower : {L M N K : Lang} → (L ∣ N) ≅ K → (L ∣ M ∣ N) ≅ (M ∣ K)
+      lower i = sink then either same i
 
-      og : {w : List ℕ} → AttType D w → ((lit "NOTATION" · S · listed (Name D)) ∣ Words (tokenized) Rest) w
-      og (inl x) = inr (inl x)
-      og (inr (inl x)) = inr (inr (inr (inr (inl x))))
-      og (inr (inr (inl x))) = inr (inr (inr (inl x)))
-      og (inr (inr (inr (inl x)))) = inr (inr (inl x))
-      og (inr (inr (inr (inr (inl x))))) = inr (inr (inr (inr (inr (inl x)))))
-      og (inr (inr (inr (inr (inr (inl x)))))) = inr (inr (inr (inr (inr (inr (inl x))))))
-      og (inr (inr (inr (inr (inr (inr (inl x))))))) = inr (inr (inr (inr (inr (inr (inr (inr (inl x))))))))
-      og (inr (inr (inr (inr (inr (inr (inr (inl x)))))))) = inr (inr (inr (inr (inr (inr (inr (inl x)))))))
-      og (inr (inr (inr (inr (inr (inr (inr (inr (inl x))))))))) = inl x
-      og (inr (inr (inr (inr (inr (inr (inr (inr (inr x))))))))) = inr (inr (inr (inr (inr (inr (inr (inr (inr x))))))))
+      reversed : {L M N K : Lang} → (L ∣ M ∣ N ∣ K) ≅ (N ∣ M ∣ L ∣ K)
+      reversed = sink then either same sink then sink
 
   rest-reads : Reads (on "(" (bar-list (nmtoken D)) (refuse unexpected)) Rest (Next space) (first-of "(")
   unfolding on listed

@@ -23,7 +23,7 @@ use Rattle.spec.specs.Reading.Utf8.{decode1, Point, point, no-point}
 use Rattle.spec.proofs.Agreement.Chars.{begins-ch}
 use Rattle.spec.proofs.Agreement.Reads.{Took, Reads, Next}
 use Rattle.spec.proofs.Agreement.Whole.{Whole}
-use Rattle.spec.proofs.Base.Results.{err-ok, ok-inj, on-ok-ok, past-ok}
+use Rattle.spec.proofs.Base.Results.{err-ok, ok-inj, on-ok-ok, past-ok, one-add}
 use Rattle.spec.proofs.Base.Tests.{true→T, eqb-yes, eqb-true, eqb-no, or-cases, and-left, and-right, one-sign, two-signs, none-sub, not-true, T→true, or-false-left, or-false-right}
 use Rattle.spec.proofs.Characters.Bytes.{all-high, high-head, high-tail, avoids, avoids-append, avoids-high, class-avoids, avoids-class, text-front, not-one, avoids-head, avoids-tail, Sized, low, high, sized}
 use Rattle.spec.proofs.Characters.Text.{text-rest, ascii-text, star-one, reclass, put}
@@ -36,12 +36,12 @@ del (suc q) [] = false
 del zero (b ∷ u) = not (one-of ">" b) && del (pick (one-of "\"'" b) b 0) u
 del (suc q) (b ∷ u) = del (pick (eqb b (suc q)) 0 (suc q)) u
 
-record Ended (q k : ℕ) (w : List ℕ) : Type 0 where
-  body : List ℕ
-  rest : List ℕ
-  split : w ≡ body ++ 62 ∷ rest
-  size : length body ≡ k
-  good : del q body ≡ true
+pub record Ended (q k : ℕ) (w : List ℕ) : Type 0 where
+  pub body : List ℕ
+  pub rest : List ℕ
+  pub split : w ≡ body ++ 62 ∷ rest
+  pub size : length body ≡ k
+  pub good : del q body ≡ true
 
 one-more : (q p k b : ℕ) (w : List ℕ) → ((u : List ℕ) → del q (b ∷ u) ≡ del p u) → ((j : ℕ) → take-decl-body p w ≡ ok j → Ended p j w) → past 1 (take-decl-body p w) ≡ ok k → Ended q k (b ∷ w)
 one-more q p k b w same ih e =
@@ -50,7 +50,7 @@ one-more q p k b w same ih e =
     let m : length (t .body) ≡ j = t .size in
     record { body = b ∷ t .body; rest = t .rest; split = ap (λ (x : List ℕ). b ∷ x) (t .split); size = omega arith; good = same (t .body) ∙ t .good }
 
-body-ended : (q k : ℕ) (w : List ℕ) → take-decl-body q w ≡ ok k → Ended q k w
+pub body-ended : (q k : ℕ) (w : List ℕ) → take-decl-body q w ≡ ok k → Ended q k w
 unfolding take-decl-body del
 body-ended q k [] e = absurd (err-ok unterminated k e)
 body-ended zero k (b ∷ w) e = go (one-of ">" b) refl e (λ p j. body-ended p j w)
@@ -64,19 +64,10 @@ body-ends : (q : ℕ) (u v : List ℕ) → del q u ≡ true → take-decl-body q
 unfolding take-decl-body del
 body-ends zero [] v h = refl
 body-ends (suc q) [] v h = absurd (true≢false (sym h))
-body-ends zero (b ∷ u) v h = go (one-of ">" b) h (λ p. body-ends p u v)
-  where
-    go : (t : Bool) → (not t && del (pick (one-of "\"'" b) b 0) u) ≡ true → ((p : ℕ) → del p u ≡ true → take-decl-body p (u ++ 62 ∷ v) ≡ ok (length u))
-        → pick t (ok 0) (past 1 (take-decl-body (pick (one-of "\"'" b) b 0) (u ++ 62 ∷ v))) ≡ ok (suc (length u))
-    go true e ih = absurd (true≢false (sym e))
-    go false e ih = ap (past 1) (ih (pick (one-of "\"'" b) b 0) e) ∙ ap ok (one-add (length u))
-      where
-        one-add : (n : ℕ) → 1 + n ≡ suc n
-        one-add n = omega arith
-body-ends (suc q) (b ∷ u) v h = ap (past 1) (body-ends (pick (eqb b (suc q)) 0 (suc q)) u v h) ∙ ap ok one-add
-  where
-    one-add : 1 + length u ≡ suc (length u)
-    one-add = omega arith
+body-ends zero (b ∷ u) v h =
+    let n : one-of ">" b ≡ false = not-true (one-of ">" b) (and-left (none-of ">" b) (del (pick (one-of "\"'" b) b 0) u) h) in
+    rw n (ap (past 1) (body-ends (pick (one-of "\"'" b) b 0) u v (and-right (none-of ">" b) (del (pick (one-of "\"'" b) b 0) u) h)) ∙ ap ok (one-add (length u)))
+body-ends (suc q) (b ∷ u) v h = ap (past 1) (body-ends (pick (eqb b (suc q)) 0 (suc q)) u v h) ∙ ap ok (one-add (length u))
 
 -- bytes above ASCII change nothing
 del-high : (q : ℕ) (x y : List ℕ) → q < 128 → T (all-high x) → del q (x ++ y) ≡ del q y

@@ -26,6 +26,7 @@ use Rattle.spec.proofs.Agreement.Runs.{not-space, skip, need, run-compl
 use Rattle.spec.proofs.Agreement.Signs.{kind, Class, Sub, sub-at, by-signs, sub-any, sub-refl, _∪_}
 use Rattle.spec.proofs.Agreement.Whole.{stop, at-end-reads}
 use Rattle.spec.proofs.Agreement.Words.{wd, first-of, plain, starts-self, starts-clash, starts-lit, starts-lit₂}
+use Rattle.spec.proofs.Base.Results.{one-add}
 use Rattle.spec.proofs.Base.Tests.{T→true, and-left, and-right, not-true}
 use Rattle.spec.proofs.Characters.Text.{cat-size, cat-before}
 use Rattle.spec.proofs.Wellformed.Names.{AsciiNames, start-first, name-reads}
@@ -206,9 +207,6 @@ module _ (D : Dialect) (A : AsciiNames D) where
       let r : run space (x ++ (y ++ v)) ≡ length x = run-complete space space-ascii g h (y ++ v) (l .second .first) (ll y v (l .second .second) t) in
       let d : drop (1 + length x) (40 ∷ (x ++ (y ++ v))) ≡ y ++ v = ap (λ (n : ℕ). drop n (40 ∷ (x ++ (y ++ v)))) (one-add (length x)) ∙ drop-append-seam x (y ++ v) in
       rw (e, starts-self (ascii "(") (x ++ (y ++ v)), r, d)
-    where
-      one-add : (n : ℕ) → 1 + n ≡ suc n
-      one-add n = omega arith
 
   -- contentspec
   inner-first : {r : Reader} {C : Lang} → Reads r C (Next after-cp) cp-first → Leads (Inner C · occurrence) (Next after-spec) cp-first

@@ -13,6 +13,7 @@ use Rattle.spec.specs.Grammar.Names.{Dialect}
 use Rattle.spec.specs.Reading.Dtd.{parse-element-decl, finish-decl, parse-markup-decl, check-doctype}
 use Rattle.spec.specs.Reading.Readers.{Reader, _>>_, starts, on, word}
 use Rattle.spec.specs.Reading.Refusals.{unexpected, trailing}
+use Rattle.spec.proofs.Agreement.Algebra.{either, same, no-first, regroup, swap, back, _then_}
 use Rattle.spec.proofs.Agreement.Choices.{refuse-reads}
 use Rattle.spec.proofs.Agreement.Reads.{Reads, Next, seq, alt, weaken, as-lang, _≅_}
 use Rattle.spec.proofs.Agreement.Signs.{by-signs, sub-any, sub-refl}
@@ -56,24 +57,7 @@ module _ (D : Dialect) (A : AsciiNames D) where
 
   -- the Rust's order, and W3C's
   in-order : {a b c d p q : Lang} → (p ∣ q ∣ (λ w. ⊥) ∣ a ∣ b ∣ c ∣ d) ≅ (a ∣ b ∣ c ∣ d ∣ p ∣ q)
-  in-order {a} {b} {c} {d} {p} {q} = record { to = λ w x. go x; from = λ w x. og x }
-    where
-      go : {w : List ℕ} → (p ∣ q ∣ (λ w. ⊥) ∣ a ∣ b ∣ c ∣ d) w → (a ∣ b ∣ c ∣ d ∣ p ∣ q) w
-      go (inl x) = inr (inr (inr (inr (inl x))))
-      go (inr (inl x)) = inr (inr (inr (inr (inr x))))
-      go (inr (inr (inl x))) = absurd x
-      go (inr (inr (inr (inl x)))) = inl x
-      go (inr (inr (inr (inr (inl x))))) = inr (inl x)
-      go (inr (inr (inr (inr (inr (inl x)))))) = inr (inr (inl x))
-      go (inr (inr (inr (inr (inr (inr x)))))) = inr (inr (inr (inl x)))
-
-      og : {w : List ℕ} → (a ∣ b ∣ c ∣ d ∣ p ∣ q) w → (p ∣ q ∣ (λ w. ⊥) ∣ a ∣ b ∣ c ∣ d) w
-      og (inl x) = inr (inr (inr (inl x)))
-      og (inr (inl x)) = inr (inr (inr (inr (inl x))))
-      og (inr (inr (inl x))) = inr (inr (inr (inr (inr (inl x)))))
-      og (inr (inr (inr (inl x)))) = inr (inr (inr (inr (inr (inr x)))))
-      og (inr (inr (inr (inr (inl x))))) = inl x
-      og (inr (inr (inr (inr (inr x))))) = inr (inl x)
+  in-order = either same (either same no-first) then regroup then swap then back regroup then either same (back regroup then either same (back regroup))
 
   markup-read : (pe : Bool) → Reads (parse-markup-decl D pe) (Read-markup pe) (Next any) (first-of "<")
   unfolding parse-markup-decl on PI Comment

@@ -1,18 +1,18 @@
 -- Readers take no more bytes than there are, by how they are made. Assumes nothing.
 use mathlib.Core.Bool.{Bool, true, false, _||_}
 use mathlib.Core.List.{List, [], _∷_}
-use mathlib.Core.Path.{_≡_}
-use Prim.Native.Nat.{ℕ, zero, suc, _+_, _≤_, _<_}
+use mathlib.Core.Path.{_≡_, ap, _∙_}
+use Prim.Native.Nat.{ℕ, suc, _+_, _≤_, _<_}
 use Prim.Native.String.{String}
 use native.Mathlib.Omega.{arith}
 use lib.Dec.{eqb}
-use lib.ListN.{length, take, drop, length-drop}
+use lib.ListN.{length, take, drop, length-drop, length-append}
 use Rattle.spec.specs.Basics.{pick}
-use Rattle.spec.specs.Grammar.Languages.{ascii, one-of}
+use Rattle.spec.specs.Grammar.Languages.{ascii}
 use Rattle.spec.specs.Grammar.Characters.{space}
 use Rattle.spec.specs.Grammar.Names.{Dialect}
 use Rattle.spec.specs.Reading.Refusals.{Refusal, unterminated}
-use Rattle.spec.specs.Reading.Readers.{Result, ok, err, Reader, taken, on-ok, past, _>>_, nothing, refuse, at-end, starts, choose, on, word-of, run, required, contains, before, up-to}
+use Rattle.spec.specs.Reading.Readers.{Result, ok, err, Reader, taken, on-ok, _>>_, nothing, refuse, at-end, starts, choose, on, word-of, run, required, contains, before, up-to}
 use Rattle.spec.specs.Reading.Wellformed.{name, name-length}
 use Rattle.spec.specs.Reading.Dtd.{
   skip-s,
@@ -31,7 +31,8 @@ use Rattle.spec.specs.Reading.Dtd.{
   parse-markup-decl,
 }
 use Rattle.spec.proofs.Agreement.Words.{starts-within, before-within}
-use Rattle.spec.proofs.Base.Results.{err-ok, ok-inj, past-ok, then-ok, on-ok-ok, by-reader, else-refused, unless-refused, else-refuses}
+use Rattle.spec.proofs.Base.Results.{err-ok, ok-inj, then-ok, on-ok-ok, by-reader, else-refused, unless-refused, else-refuses}
+use Rattle.spec.proofs.Dtd.Bodies.{Ended, body-ended}
 use Rattle.spec.proofs.Wellformed.LongestName.{name-within}
 
 pub record Inside (r : Reader) : Type 0 where
@@ -49,19 +50,10 @@ run-short p (b ∷ w) = go (p b) (run-short p w)
 
 -- the '>' that ends a body stands in the text
 pub body-within : (q k : ℕ) (w : List ℕ) → take-decl-body q w ≡ ok k → k < length w
-unfolding take-decl-body
-body-within q k [] e = absurd (err-ok unterminated k e)
-body-within zero k (b ∷ w) e = by-end (one-of ">" b) e (λ p j. body-within p j w)
-  where
-    by-end : (t : Bool) → pick t (ok 0) (past 1 (take-decl-body (pick (one-of "\"'" b) b 0) w)) ≡ ok k → ((p j : ℕ) → take-decl-body p w ≡ ok j → j < length w) → k < suc (length w)
-    by-end true f ih = let z : 0 ≡ k = ok-inj 0 k f in omega arith
-    by-end false f ih =
-        let (m, g, z) = past-ok 1 k (take-decl-body (pick (one-of "\"'" b) b 0) w) f in
-        let l = ih (pick (one-of "\"'" b) b 0) m g in
-        omega arith
-body-within (suc q) k (b ∷ w) e =
-    let (m, g, z) = past-ok 1 k (take-decl-body (pick (eqb b (suc q)) 0 (suc q)) w) e in
-    let l = body-within (pick (eqb b (suc q)) 0 (suc q)) m w g in
+body-within q k w e =
+    let t : Ended q k w = body-ended q k w e in
+    let n : length (t .body) ≡ k = t .size in
+    let l : length w ≡ length (t .body) + suc (length (t .rest)) = ap length (t .split) ∙ length-append (t .body) (62 ∷ t .rest) in
     omega arith
 
 -- the ways to make a reader

@@ -1,11 +1,11 @@
 -- Names, tokens and check_name, for every dialect with XML's ASCII name characters. Assumes nothing.
 use mathlib.Core.Logic
 use mathlib.Core.Bool.{Bool, true, false, _||_, not}
-use mathlib.Core.Logic.{_⊎_}
+use mathlib.Core.Logic.{⊎-elim}
 use mathlib.Core.Path.{_≡_, refl, _∙_}
 use Prim.Native.Nat.{ℕ, suc, _<_}
 use lib.Dec.{T, ltb, eqb}
-use Rattle.spec.specs.Grammar.Languages.{Ch, inl, inr, Star, one-of}
+use Rattle.spec.specs.Grammar.Languages.{Ch, Star, one-of}
 use Rattle.spec.specs.Grammar.Names.{Dialect, Name, Nmtoken}
 use Rattle.spec.specs.Grammar.References.{digit}
 use Rattle.spec.specs.Grammar.XmlDecl.{latin-letter}
@@ -45,11 +45,8 @@ ends-name k = not (part-first k)
 
 module _ (D : Dialect) (A : AsciiNames D) where
   class-lead : (p : ℕ → Bool) (q : Class) → ((c : ℕ) → c < 128 → p c ≡ q c) → (c : ℕ) → T (p c) → T (q (sign c) || eqb (sign c) 128)
-  class-lead p q law c t = go (decide (ltb c 128))
-    where
-      go : (ltb c 128 ≡ true) ⊎ (ltb c 128 ≡ false) → T (q (sign c) || eqb (sign c) 128)
-      go (Logic.inl e) = rw e (in-left (q c) (eqb c 128) (rw (law c (leb-true (suc c) 128 e)) at t))
-      go (Logic.inr e) = rw e (in-right (q 128) (eqb 128 128) tt)
+  class-lead p q law c t =
+      ⊎-elim (λ e. rw e (in-left (q c) (eqb c 128) (rw (law c (leb-true (suc c) 128 e)) at t))) (λ e. rw e (in-right (q 128) (eqb 128 128) tt)) (decide (ltb c 128))
 
   parts-reads : (q : Class) → Sub q ends-name → Reads (parts D) (Star (Ch (D .part))) (Next q) (part-first ∪ q)
   unfolding parts

@@ -21,7 +21,7 @@ use Rattle.spec.proofs.Agreement.Chars.{ch-some}
 use Rattle.spec.proofs.Agreement.Holds.{contains-avoid, contains-char, starts-shorter, free-holds, holds-free}
 use Rattle.spec.proofs.Agreement.Reads.{Took, drop-took}
 use Rattle.spec.proofs.Base.Loops.{Somes, through-end, through-some, through-none}
-use Rattle.spec.proofs.Base.Results.{err-ok, past-past, past-ok}
+use Rattle.spec.proofs.Base.Results.{err-ok, past-past, past-ok, one-add}
 use Rattle.spec.proofs.Base.Tests.{decide, eqb-true, and-left, and-right, or-false-left, or-false-right}
 use Rattle.spec.proofs.Characters.Bytes.{Bytes, bytes-of, all-tails}
 use Rattle.spec.proofs.Characters.Text.{ch-any, star-map}
@@ -38,7 +38,7 @@ module _ (S : Reader) (some : Somes S) (at-tail : (b : ℕ) (w : List ℕ) → t
   over-tails (b ∷ x) v h =
       through-some S (some) (b ∷ (x ++ v)) 1 (omega arith) (at-tail b (x ++ v) (and-left (tail b) (all-tails x) h))
       ∙ ap (past 1) (over-tails x v (and-right (tail b) (all-tails x) h))
-      ∙ past-past 1 (length x) (throughout S v) ∙ ap (λ (n : ℕ). past n (throughout S v)) (let e : 1 + length x ≡ suc (length x) = omega arith in e)
+      ∙ past-past 1 (length x) (throughout S v) ∙ ap (λ (n : ℕ). past n (throughout S v)) (one-add (length x))
 
   pub over-char : {p : ℕ → Bool} (u v : List ℕ) → Ch p u → S (u ++ v) ≡ ok 1 → throughout S (u ++ v) ≡ past (length u) (throughout S v)
   over-char u v c e =
@@ -48,7 +48,7 @@ module _ (S : Reader) (some : Somes S) (at-tail : (b : ℕ) (w : List ℕ) → t
       ap (λ (z : List ℕ). throughout S (z ++ v)) f
       ∙ through-some S (some) (b .head ∷ (b .tails ++ v)) 1 (omega arith) g
       ∙ ap (past 1) (over-tails (b .tails) v (b .tailed)) ∙ past-past 1 (length (b .tails)) (throughout S v)
-      ∙ ap (λ (n : ℕ). past n (throughout S v)) (let e : 1 + length (b .tails) ≡ suc (length (b .tails)) = omega arith in e ∙ ap length (sym f))
+      ∙ ap (λ (n : ℕ). past n (throughout S v)) (one-add (length (b .tails)) ∙ ap length (sym f))
 
 -- a walk's way: references, and characters of the class p that begin no "&#" and of which B holds where they stand
 pub data Walked (p : ℕ → Bool) (B : List ℕ → Type 0) : List ℕ → Type 0 where
