@@ -5,7 +5,7 @@ use Prim.Native.Nat.{ℕ}
 use Prim.Native.String.{String}
 use Rattle.spec.specs.Grammar.Languages.{Lang, lit, ascii, _·_, _∣_, inl, inr, Star, end, more, Plus}
 use Rattle.spec.proofs.Agreement.Reads.{_≅_}
-use Rattle.spec.proofs.Characters.Text.{cat-before, plus-star}
+use Rattle.spec.proofs.Characters.Text.{cat-before, plus-star, star-map}
 
 -- the empty text
 abbrev pub ε : Lang
@@ -31,15 +31,11 @@ pub cat₂ : {L M M′ : Lang} → M ≅ M′ → (L · M) ≅ (L · M′)
 cat₂ j = cat same j
 
 pub either : {L L′ M M′ : Lang} → L ≅ L′ → M ≅ M′ → (L ∣ M) ≅ (L′ ∣ M′)
-either {L} {L′} {M} {M′} i j = record { to = go; from = og }
+either i j = record { to = λ w. go (i .to w) (j .to w); from = λ w. go (i .from w) (j .from w) }
   where
-    go : (w : List ℕ) → (L ∣ M) w → (L′ ∣ M′) w
-    go w (inl l) = inl (i .to w l)
-    go w (inr m) = inr (j .to w m)
-
-    og : (w : List ℕ) → (L′ ∣ M′) w → (L ∣ M) w
-    og w (inl l) = inl (i .from w l)
-    og w (inr m) = inr (j .from w m)
+    go : {A B C D : Lang} {w : List ℕ} → (A w → B w) → (C w → D w) → (A ∣ C) w → (B ∣ D) w
+    go f g (inl a) = inl (f a)
+    go f g (inr c) = inr (g c)
 
 pub assoc : {L M N : Lang} → ((L · M) · N) ≅ (L · (M · N))
 assoc = record {
@@ -101,15 +97,7 @@ no-other {L} = record { to = go; from = λ w l. inl l }
     go w (inr z) = absurd z
 
 pub starred : {L M : Lang} → L ≅ M → Star L ≅ Star M
-starred {L} {M} i = record { to = λ w s. go s; from = λ w s. og s }
-  where
-    go : {w : List ℕ} → Star L w → Star M w
-    go (end e) = end e
-    go (more u v e l s) = more u v e (i .to u l) (go s)
-
-    og : {w : List ℕ} → Star M w → Star L w
-    og (end e) = end e
-    og (more u v e l s) = more u v e (i .from u l) (og s)
+starred i = record { to = λ w s. star-map (i .to) s; from = λ w s. star-map (i .from) s }
 
 -- A (X A)* is (A X)* A
 module _ {A X : Lang} where
@@ -152,15 +140,11 @@ module _ {A X : Lang} where
   rotate-plus = cat₂ assoc then back assoc then cat₂ rotate then back assoc
 
 pub swap : {L M : Lang} → (L ∣ M) ≅ (M ∣ L)
-swap {L} {M} = record { to = λ w x. go x; from = λ w x. og x }
+swap = record { to = λ w x. go x; from = λ w x. go x }
   where
-    go : {w : List ℕ} → (L ∣ M) w → (M ∣ L) w
+    go : {L M : Lang} {w : List ℕ} → (L ∣ M) w → (M ∣ L) w
     go (inl l) = inr l
     go (inr m) = inl m
-
-    og : {w : List ℕ} → (M ∣ L) w → (L ∣ M) w
-    og (inl l) = inr l
-    og (inr m) = inl m
 
 pub regroup : {L M N : Lang} → (L ∣ M ∣ N) ≅ ((L ∣ M) ∣ N)
 regroup {L} {M} {N} = record { to = λ w x. go x; from = λ w x. og x }

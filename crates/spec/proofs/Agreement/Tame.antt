@@ -15,7 +15,7 @@ use Rattle.spec.specs.Grammar.Literals.{SystemLiteral}
 use Rattle.spec.specs.Grammar.Names.{Dialect, Name}
 use Rattle.spec.proofs.Agreement.Algebra.{ε}
 use Rattle.spec.proofs.Base.Tests.{T→true, true→T, eqb-no, and-left, and-right, leb-true, none-sub, not-true}
-use Rattle.spec.proofs.Characters.Text.{star-append, star-one, star-map, ascii-char, reclass}
+use Rattle.spec.proofs.Characters.Text.{star-append, star-one, star-map, ascii-char, reclass, star-bind}
 use Rattle.spec.proofs.Wellformed.Names.{AsciiNames}
 
 -- Languages whose texts have quotes in pairs, and no angle bracket and no square bracket outside them
@@ -45,11 +45,7 @@ pub within-none : Within ε
 within-none u e = end e
 
 pub within-star : {L : Lang} → Within L → Within (Star L)
-within-star {L} a u s = go s
-  where
-    go : {u : List ℕ} → Star L u → Tame u
-    go (end e) = end e
-    go (more x y e l s) = subst Tame (sym e) (star-append (a x l) (go s))
+within-star a u s = star-bind a s
 
 pub within-ch : (p : ℕ → Bool) → p 34 ≡ false → p 39 ≡ false → p 60 ≡ false → p 62 ≡ false → p 91 ≡ false → p 93 ≡ false → Within (Ch p)
 within-ch p a b d f g h u c = star-one (inl (reclass c go))

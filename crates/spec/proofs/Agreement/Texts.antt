@@ -6,10 +6,10 @@ use Prim.Native.Nat.{ℕ}
 use Prim.Native.String.{String}
 use lib.Dec.{T}
 use Rattle.spec.specs.Grammar.Characters.{Text, S, S?, space}
-use Rattle.spec.specs.Grammar.Languages.{Lang, lit, ascii, Ch, _·_, _∣_, inl, inr, Star, end, more, Plus, any, _∖_}
+use Rattle.spec.specs.Grammar.Languages.{Lang, lit, ascii, Ch, _·_, _∣_, inl, inr, Star, end, Plus, any, _∖_}
 use Rattle.spec.specs.Grammar.Names.{Dialect, Name}
 use Rattle.spec.specs.Grammar.References.{digit, hex-digit, CharRef, Unreferring, Referring}
-use Rattle.spec.proofs.Characters.Text.{all-ascii, ascii-text, star-append, star-one, ch-any}
+use Rattle.spec.proofs.Characters.Text.{all-ascii, ascii-text, star-append, star-one, ch-any, star-bind}
 
 abbrev pub Texts : Lang → Type 0
 Texts L = (u : List ℕ) → L u → Star (Ch any) u
@@ -18,11 +18,7 @@ pub texts-cat : {L M : Lang} → Texts L → Texts M → Texts (L · M)
 texts-cat f g u c = subst (Star (Ch any)) (sym (c .split)) (star-append (f (c .left) (c .first)) (g (c .right) (c .second)))
 
 pub texts-star : {L : Lang} → Texts L → Texts (Star L)
-texts-star {L} f u s = go s
-  where
-    go : {u : List ℕ} → Star L u → Star (Ch any) u
-    go (end e) = end e
-    go (more x y e l s) = subst (Star (Ch any)) (sym e) (star-append (f x l) (go s))
+texts-star f u s = star-bind f s
 
 pub texts-lit : (s : String) → T (all-ascii (ascii s)) → Texts (lit s)
 texts-lit s h u e = subst (Star (Ch any)) (sym e) (ascii-text (ascii s) h)

@@ -83,6 +83,12 @@ starts-sign a (b ∷ w) l t = go (ltb b 128) refl t
     go true e h = rw (T→true (eqb b a) h)
     go false e h = let f : 128 ≡ a = eqb-true 128 a (T→true (eqb 128 a) h) in absurd (omega arith)
 
+-- where a word stands, none stands that begins with another sign
+pub starts-apart : (a b : ℕ) (s t w : List ℕ) → eqb a b ≡ false → starts (a ∷ s) w ≡ true → starts (b ∷ t) w ≡ false
+unfolding starts
+starts-apart a b s t [] n e = refl
+starts-apart a b s t (c ∷ w) n e = rw (ap (λ (z : ℕ). eqb z b) (eqb-true c a (and-left (eqb c a) (starts s w) e)) ∙ n)
+
 pub starts-split : (s w : List ℕ) → starts s w ≡ true → (v : List ℕ) × (w ≡ s ++ v)
 unfolding starts
 starts-split [] w e = (w, refl)

@@ -40,6 +40,11 @@ then-ok r q w k e =
     let (j, h, l) = past-ok i k (q (drop i w)) g in
     (i, j, f, h, l)
 
+-- the same branch on both sides
+pub both-pick : {A : Type 0} (R : A → A → Type 0) (t : Bool) {x y x' y' : A} → R x x' → R y y' → R (pick t x y) (pick t x' y')
+both-pick R true a b = a
+both-pick R false a b = b
+
 -- by a test that chooses between two values, and between two readers
 pub by-pick : {A C : Type 0} (t : Bool) (x y z : A) → (t ≡ true → x ≡ z → C) → (t ≡ false → y ≡ z → C) → pick t x y ≡ z → C
 by-pick true x y z f g e = f refl e

@@ -3,11 +3,12 @@ use mathlib.Core.Bool.{Bool, true, _&&_}
 use mathlib.Core.List.{List, [], _∷_, _++_, append-assoc, append-nil, append-cancel-left}
 use mathlib.Core.Path.{_≡_, refl, sym, _∙_, ap}
 use Prim.Native.Nat.{ℕ, suc, _+_, _<_}
+use Prim.Native.String.{String}
 use native.Mathlib.Omega.{arith}
 use lib.Dec.{T, ltb}
 use lib.ListN.{length, length-append}
 use Rattle.spec.specs.Grammar.Characters.{Text}
-use Rattle.spec.specs.Grammar.Languages.{Lang, Ch, Star, end, more, any, _·_, Plus}
+use Rattle.spec.specs.Grammar.Languages.{Lang, Ch, Star, end, more, any, _·_, Plus, lit, ascii}
 use Rattle.spec.specs.Grammar.Utf8.{scalar, encode}
 use Rattle.spec.specs.Reading.Readers.{char}
 use Rattle.spec.specs.Reading.Utf8.{decode1, point}
@@ -21,6 +22,11 @@ star-append {v = v} (more x y e l s) t = more x (y ++ v) (ap (λ (z : List ℕ).
 pub star-one : {L : Lang} {u : List ℕ} → L u → Star L u
 star-one {u = u} l = more u [] (sym (append-nil u)) l (end refl)
 
+-- each part a text of M's, so the whole is
+pub star-bind : {L M : Lang} → ((u : List ℕ) → L u → Star M u) → {u : List ℕ} → Star L u → Star M u
+star-bind f (end e) = end e
+star-bind f (more x y e l s) = rw e (star-append (f x l) (star-bind f s))
+
 -- one part after the other
 pub put : {L M : Lang} (u v : List ℕ) → L u → M v → (L · M) (u ++ v)
 put u v l m = record { left = u; right = v; split = refl; first = l; second = m }
@@ -31,6 +37,10 @@ cat-size c = ap length (c .split) ∙ length-append (c .left) (c .right)
 
 pub cat-before : {L M : Lang} {u : List ℕ} (c : (L · M) u) (v : List ℕ) → u ++ v ≡ c .left ++ (c .right ++ v)
 cat-before c v = ap (λ (z : List ℕ). z ++ v) (c .split) ∙ append-assoc (c .left) (c .right) v
+
+-- a part between two words
+pub between : (s t : String) {M : Lang} {x : List ℕ} (l : (lit s · M · lit t) x) → x ≡ ascii s ++ (l .second .left ++ ascii t)
+between s t l = l .split ∙ (λ i. l .first i ++ (l .second .split ∙ ap (λ (z : List ℕ). l .second .left ++ z) (l .second .second)) i)
 
 pub plus-star : {L : Lang} {u : List ℕ} → Plus L u → Star L u
 plus-star c = more (c .left) (c .right) (c .split) (c .first) (c .second)

@@ -24,6 +24,7 @@ use Rattle.spec.proofs.Agreement.Tame.{Tame, Within, plain-bytes, withi
 use Rattle.spec.proofs.Agreement.Words.{contains-at}
 use Rattle.spec.proofs.Base.Tests.{T→true, eqb-yes, eqb-no, and-right, none-sub, not-true, and-left, both-left, both-right}
 use Rattle.spec.proofs.Characters.Bytes.{all-high, high-head, high-tail, avoids, class-avoids, avoids-head, avoids-tail, Sized, low, high, sized}
+use Rattle.spec.proofs.Characters.Text.{between}
 use Rattle.spec.proofs.Division.Parts.{Filling, last, next, Premise}
 use Rattle.spec.proofs.Division.Quoting.{paired, quoting}
 use Rattle.spec.proofs.Dtd.Bodies.{del, delimited-del, refers-complete}
@@ -57,10 +58,6 @@ pub record Quoting (f : ℕ → List ℕ → Place) : Type 0 where
   pub double : (w : List ℕ) → f 0 (34 ∷ w) ≡ later 1 (f 34 w)
   pub single : (w : List ℕ) → f 0 (39 ∷ w) ≡ later 1 (f 39 w)
   pub plain : (b : ℕ) (w : List ℕ) → one-of "\"'<>[]" b ≡ false → f 0 (b ∷ w) ≡ later 1 (f 0 w)
-
--- a part between two words
-quoted-is : (s t : String) {M : Lang} {x : List ℕ} (l : (lit s · M · lit t) x) → x ≡ ascii s ++ (l .second .left ++ ascii t)
-quoted-is s t l = l .split ∙ (λ i. l .first i ++ (l .second .split ∙ ap (λ (z : List ℕ). l .second .left ++ z) (l .second .second)) i)
 
 module _ {f : ℕ → List ℕ → Place} (P : Quoting f) where
   clear-cons : (b : ℕ) (x : List ℕ) → one-of "\"'<>[]" b ≡ false → Clear (f 0) x → Clear (f 0) (b ∷ x)
@@ -98,8 +95,8 @@ module _ {f : ℕ → List ℕ → Place} (P : Quoting f) where
 
   clear-literal : (x : List ℕ) → SystemLiteral x → Clear (f 0) x
   unfolding SystemLiteral
-  clear-literal x (inl l) = clear-quoted 33 (none-of "\"") x (l .second .left) (P .double) (omega arith) refl (l .second .first) (quoted-is "\"" "\"" l)
-  clear-literal x (inr l) = clear-quoted 38 (none-of "'") x (l .second .left) (P .single) (omega arith) refl (l .second .first) (quoted-is "'" "'" l)
+  clear-literal x (inl l) = clear-quoted 33 (none-of "\"") x (l .second .left) (P .double) (omega arith) refl (l .second .first) (between "\"" "\"" l)
+  clear-literal x (inr l) = clear-quoted 38 (none-of "'") x (l .second .left) (P .single) (omega arith) refl (l .second .first) (between "'" "'" l)
 
   pub clear-tame : {x : List ℕ} → Tame x → Clear (f 0) x
   clear-tame (end e) = subst (Clear (f 0)) (sym e) clear-none

@@ -1,7 +1,7 @@
 -- Divisions by places and by parts are the same. Assumes nothing.
 use mathlib.Core.Bool.{Bool, false, _&&_, _||_}
 use mathlib.Core.List.{List, [], _∷_, _++_, append-assoc}
-use mathlib.Core.Logic.{_↔_, _⊎_, inl, inr}
+use mathlib.Core.Logic.{_↔_, _⊎_, inl, inr, ⊎-elim}
 use mathlib.Core.Path.{_≡_, refl, sym, _∙_, ap, subst}
 use Prim.Native.Nat.{ℕ, suc, _+_, _-_, _≤_, _<_}
 use native.Mathlib.Omega.{arith}
@@ -198,15 +198,10 @@ module _ (D : Dialect) (A : AsciiNames D) where
 
   -- THE THEOREMS, for every name class with XML's ASCII part
   pub divided : (w : List ℕ) → doctypedecl D w ↔ (Front D w ⊎ Division D w)
-  divided w = (λ d. go (divided-parts D A w .0 d), λ x. divided-parts D A w .1 (og x))
-    where
-      go : Front D w ⊎ Parts D w → Front D w ⊎ Division D w
-      go (inl f) = inl f
-      go (inr d) = inr (of-parts d)
-
-      og : Front D w ⊎ Division D w → Front D w ⊎ Parts D w
-      og (inl f) = inl f
-      og (inr v) = inr (parts-of v .parts)
+  divided w = (
+    λ d. ⊎-elim (λ f. inl f) (λ p. inr (of-parts p)) (divided-parts D A w .0 d),
+    λ x. divided-parts D A w .1 (⊎-elim (λ f. inl f) (λ v. inr (parts-of v .parts)) x),
+  )
 
   pub apart : (w : List ℕ) → Front D w → Division D w → ⊥
   unfolding subset-open

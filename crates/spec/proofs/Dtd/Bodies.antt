@@ -26,7 +26,7 @@ use Rattle.spec.proofs.Agreement.Whole.{Whole}
 use Rattle.spec.proofs.Base.Results.{err-ok, ok-inj, on-ok-ok, past-ok, one-add}
 use Rattle.spec.proofs.Base.Tests.{true→T, eqb-yes, eqb-true, eqb-no, or-cases, and-left, and-right, one-sign, two-signs, none-sub, not-true, T→true, or-false-left, or-false-right}
 use Rattle.spec.proofs.Characters.Bytes.{all-high, high-head, high-tail, avoids, avoids-append, avoids-high, class-avoids, avoids-class, text-front, not-one, avoids-head, avoids-tail, Sized, low, high, sized}
-use Rattle.spec.proofs.Characters.Text.{text-rest, ascii-text, star-one, reclass, put}
+use Rattle.spec.proofs.Characters.Text.{text-rest, ascii-text, star-one, reclass, put, between}
 use Rattle.spec.proofs.Characters.Utf8.{decode-read, Read}
 
 -- the bytes of a body, by the open quote or 0: no '>' outside quotes, and no quote left open
@@ -87,10 +87,11 @@ del-inside q [] y h = refl
 del-inside q (b ∷ x) y h = ap (λ (t : Bool). del (pick t 0 (suc q)) (x ++ y)) (avoids-head (suc q) b x h) ∙ del-inside q x y (avoids-tail (suc q) b x h)
 
 -- a delimited body has such bytes
-del-literal : (q : ℕ) (p : ℕ → Bool) (x y : List ℕ) → suc q < 128 → p (suc q) ≡ false → one-of ">" (suc q) ≡ false → one-of "\"'" (suc q) ≡ true
-    → Star (Ch p) x → del 0 (suc q ∷ (x ++ (suc q ∷ y))) ≡ del 0 y
+del-quoted : (q : ℕ) (p : ℕ → Bool) (x d y : List ℕ) → suc q < 128 → p (suc q) ≡ false → one-of ">" (suc q) ≡ false → one-of "\"'" (suc q) ≡ true
+    → Star (Ch p) d → x ≡ suc q ∷ (d ++ (suc q ∷ [])) → del 0 (x ++ y) ≡ del 0 y
 unfolding del
-del-literal q p x y l n gt qt s = rw (gt, qt, del-inside q x (suc q ∷ y) (class-avoids p (suc q) l n s), eqb-yes (suc q) (suc q) refl)
+del-quoted q p x d y l n gt qt s e =
+    rw (e, append-assoc d (suc q ∷ []) y, gt, qt, del-inside q d (suc q ∷ y) (class-avoids p (suc q) l n s), eqb-yes (suc q) (suc q) refl)
 
 del-item : (x y : List ℕ) → (Ch (none-of "\"'>") ∣ SystemLiteral) x → del 0 (x ++ y) ≡ del 0 y
 unfolding SystemLiteral del
@@ -104,16 +105,8 @@ del-item x y (inl c) = by-size (sized c)
     by-size : Sized c → del 0 (x ++ y) ≡ del 0 y
     by-size (low t is) = ap (λ (z : List ℕ). del 0 (z ++ y)) is ∙ small
     by-size (high t h) = del-high 0 x y (omega arith) h
-del-item x y (inr (inl l)) =
-    let d : List ℕ = l .second .left in
-    let e : x ++ y ≡ 34 ∷ (d ++ (34 ∷ y)) =
-    ap (λ (z : List ℕ). z ++ y) (l .split ∙ (λ i. l .first i ++ (l .second .split ∙ ap (λ (z : List ℕ). d ++ z) (l .second .second)) i)) ∙ ap (λ (z : List ℕ). 34 ∷ z) (append-assoc d (34 ∷ []) y) in
-    ap (del 0) e ∙ del-literal 33 (none-of "\"") d y (omega arith) refl refl refl (l .second .first)
-del-item x y (inr (inr l)) =
-    let d : List ℕ = l .second .left in
-    let e : x ++ y ≡ 39 ∷ (d ++ (39 ∷ y)) =
-    ap (λ (z : List ℕ). z ++ y) (l .split ∙ (λ i. l .first i ++ (l .second .split ∙ ap (λ (z : List ℕ). d ++ z) (l .second .second)) i)) ∙ ap (λ (z : List ℕ). 39 ∷ z) (append-assoc d (39 ∷ []) y) in
-    ap (del 0) e ∙ del-literal 38 (none-of "'") d y (omega arith) refl refl refl (l .second .first)
+del-item x y (inr (inl l)) = del-quoted 33 (none-of "\"") x (l .second .left) y (omega arith) refl refl refl (l .second .first) (between "\"" "\"" l)
+del-item x y (inr (inr l)) = del-quoted 38 (none-of "'") x (l .second .left) y (omega arith) refl refl refl (l .second .first) (between "'" "'" l)
 
 pub delimited-del : {u : List ℕ} → Star (Ch (none-of "\"'>") ∣ SystemLiteral) u → del 0 u ≡ true
 unfolding del

@@ -1,5 +1,5 @@
 -- Two readers that differ only in what they do with one group too many, and the law of each way to make a reader. Assumes nothing.
-use mathlib.Core.Bool.{Bool, true, false, not}
+use mathlib.Core.Bool.{Bool, not}
 use mathlib.Core.List.{List, [], _∷_}
 use mathlib.Core.Path.{_≡_, refl, ap, subst}
 use Prim.Native.Nat.{ℕ, zero, suc}
@@ -11,6 +11,7 @@ use Rattle.spec.specs.Grammar.Languages.{ascii}
 use Rattle.spec.specs.Reading.Readers.{Result, ok, err, Reader, number-of, on-ok, past, _>>_, nothing, refuse, at-end, starts, choose, on, word-of, word, while-fuel, while, some-left, throughout, required, a-byte, of-point, char, contains, before, up-to}
 use Rattle.spec.specs.Reading.Refusals.{Refusal, too-deep}
 use Rattle.spec.specs.Reading.Utf8.{Point, point, no-point, decode1}
+use Rattle.spec.proofs.Base.Results.{both-pick}
 
 -- an answer whose number is not 20
 abbrev pub other : Result → Bool
@@ -24,11 +25,6 @@ pub data Alike (j : ℕ) (y : Refusal) (a b : Result) : Type 0 where
 
 pub record Like (j : ℕ) (y : Refusal) (r q : Reader) : Type 0 where
   pub it : (w : List ℕ) → Alike j y (r w) (q w)
-
--- of answers and of readers alike: the same branch on both sides
-pub both-pick : {A : Type 0} (R : A → A → Type 0) (b : Bool) {r q r' q' : A} → R r r' → R q q' → R (pick b r q) (pick b r' q')
-both-pick R true a b = a
-both-pick R false a b = b
 
 module _ {j : ℕ} {y : Refusal} where
   -- answers

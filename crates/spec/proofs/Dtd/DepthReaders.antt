@@ -18,7 +18,8 @@ use Rattle.spec.specs.Reading.Dtd
 use Rattle.spec.specs.Reading.Readers.{Result, err, Reader, nothing, refuse, starts, run, begins, contains}
 use Rattle.spec.specs.Reading.Refusals.{Refusal, too-deep}
 use Rattle.spec.specs.Reading.Wellformed
-use Rattle.spec.proofs.Dtd.DepthAlike.{Alike, met, same, Like, both-pick, alike-on, alike-past, alike-test, _then_, like-nothing, like-byte, like-refuse, like-end, like-choose, like-on, like-word, like-while, like-throughout, like-required, like-char, like-up-to}
+use Rattle.spec.proofs.Base.Results.{both-pick}
+use Rattle.spec.proofs.Dtd.DepthAlike.{Alike, met, same, Like, alike-on, alike-past, alike-test, _then_, like-nothing, like-byte, like-refuse, like-end, like-choose, like-on, like-word, like-while, like-throughout, like-required, like-char, like-up-to}
 
 -- Each tt is a computed test: the refusal at that place is not numbered 20.
 

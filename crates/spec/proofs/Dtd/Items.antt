@@ -5,7 +5,6 @@ use mathlib.Core.Path.{_≡_, refl, ap}
 use Prim.Native.Nat.{ℕ, zero, suc, _≤_, _<_}
 use native.Mathlib.Omega.{arith}
 use lib.ListN.{length, drop, length-drop}
-use Rattle.spec.specs.Basics.{pick}
 use Rattle.spec.specs.Grammar.Languages.{ascii}
 use Rattle.spec.specs.Grammar.Characters.{space}
 use Rattle.spec.specs.Grammar.Names.{Dialect}
@@ -13,6 +12,7 @@ use Rattle.spec.specs.Reading.Refusals.{unexpected, unterminated}
 use Rattle.spec.specs.Reading.Readers.{Result, ok, err, Reader, on-ok, past, _>>_, refuse, at-end, starts, choose, on, word, run}
 use Rattle.spec.specs.Reading.Dtd.{skip-s, parse-pe-reference, parse-comment, parse-pi, parse-markup-decl, subset-fuel, parse-internal-subset}
 use Rattle.spec.proofs.Base.Loops.{Somes}
+use Rattle.spec.proofs.Base.Results.{both-pick}
 use Rattle.spec.proofs.Base.Somes.{some-refuse, some-on, some-then, some-word}
 
 -- the same answer where what comes after r is the same on every shorter text
@@ -49,13 +49,10 @@ module _ (D : Dialect) where
   unfolding item on choose starts
   item-same n m pe [] h = refl
   item-same n m pe (b ∷ w) h =
-      both (starts (ascii "]") (b ∷ w)) _ _ _ _ refl
-      (both (starts (ascii "%") (b ∷ w)) _ _ _ _ (then-same (parse-pe-reference D) (n true) (m true) some-reference b w (λ y l. h true y (omega arith)))
-      (both (starts (ascii "<") (b ∷ w)) _ _ _ _ (then-same (parse-markup-decl D pe) (n pe) (m pe) (some-markup pe) b w (λ y l. h pe y (omega arith))) refl))
-    where
-      both : (t : Bool) (r q r' q' : Reader) → r (b ∷ w) ≡ r' (b ∷ w) → q (b ∷ w) ≡ q' (b ∷ w) → pick t r q (b ∷ w) ≡ pick t r' q' (b ∷ w)
-      both true r q r' q' e f = e
-      both false r q r' q' e f = f
+      let Same : Reader → Reader → Type 0 = λ r q. r (b ∷ w) ≡ q (b ∷ w) in
+      both-pick Same (starts (ascii "]") (b ∷ w)) refl
+      (both-pick Same (starts (ascii "%") (b ∷ w)) (then-same (parse-pe-reference D) (n true) (m true) some-reference b w (λ y l. h true y (omega arith)))
+      (both-pick Same (starts (ascii "<") (b ∷ w)) (then-same (parse-markup-decl D pe) (n pe) (m pe) (some-markup pe) b w (λ y l. h pe y (omega arith))) refl))
 
   spaced-same : (n m : Bool → Reader) (pe : Bool) (w : List ℕ) → ((t : Bool) (y : List ℕ) → length y < length w → n t y ≡ m t y) → (skip-s >> item n pe) w ≡ (skip-s >> item m pe) w
   unfolding _>>_ skip-s

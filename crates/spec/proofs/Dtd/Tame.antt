@@ -9,6 +9,7 @@ use Rattle.spec.specs.Grammar.Declarations.{NDataDecl, listed, AttType, 
 use Rattle.spec.specs.Grammar.Languages.{Lang, Ch, inl, inr, Star, any, none-of}
 use Rattle.spec.specs.Grammar.Literals.{Quoted, SystemLiteral, PubidLiteral, pubid-char, EntityValue, AttValue, ExternalID, PublicID}
 use Rattle.spec.specs.Grammar.Names.{Dialect, Nmtoken, NCName}
+use Rattle.spec.specs.Grammar.References.{Referring}
 use Rattle.spec.proofs.Agreement.Tame.{Within, within-cat, within-either, within-star, within-ch, within-lit, within-none, within-s, within-s?, within-name}
 use Rattle.spec.proofs.Agreement.Texts.{texts-referring}
 use Rattle.spec.proofs.Base.Tests.{T→true, eqb-no}
@@ -16,7 +17,7 @@ use Rattle.spec.proofs.Characters.Bytes.{avoids-class, not-one}
 use Rattle.spec.proofs.Characters.Text.{star-one, star-map}
 use Rattle.spec.proofs.Dtd.Values.{quote-foreign, apostrophe-foreign}
 use Rattle.spec.proofs.Wellformed.Names.{AsciiNames}
-use Rattle.spec.proofs.Wellformed.References.{ref-avoids}
+use Rattle.spec.proofs.Wellformed.References.{ref-avoids, Foreign}
 
 -- literals
 within-quoted : {D E : Lang} → ((u : List ℕ) → D u → Star (Ch (none-of "\"")) u) → ((u : List ℕ) → E u → Star (Ch (none-of "'")) u) → Within (Quoted D E)
@@ -35,17 +36,17 @@ within-pubid : Within PubidLiteral
 unfolding PubidLiteral pubid-char
 within-pubid = within-quoted (λ u s. without pubid-char 34 refl s) (λ u s. without (λ c. pubid-char c && none-of "'" c) 39 refl s)
 
+-- text with references, none of which has the quote
+referring-without : (p : ℕ → Bool) (a : ℕ) → Foreign a → p a ≡ false → (u : List ℕ) → Referring p u → Star (Ch (λ c. not (eqb c a || false))) u
+referring-without p a f n u r = avoids-class any (λ c. not (eqb c a || false)) a (f .small) (λ c t. not-one a c) (texts-referring p u r) (ref-avoids p a f n u r)
+
 within-value : Within EntityValue
 unfolding EntityValue
-within-value =
-    within-quoted (λ u r. avoids-class any (none-of "\"") 34 (omega arith) (λ c t. not-one 34 c) (texts-referring (none-of "\"") u r) (ref-avoids (none-of "\"") 34 quote-foreign refl u r))
-    (λ u r. avoids-class any (none-of "'") 39 (omega arith) (λ c t. not-one 39 c) (texts-referring (none-of "'") u r) (ref-avoids (none-of "'") 39 apostrophe-foreign refl u r))
+within-value = within-quoted (referring-without (none-of "\"") 34 quote-foreign refl) (referring-without (none-of "'") 39 apostrophe-foreign refl)
 
 within-att : Within AttValue
 unfolding AttValue
-within-att =
-    within-quoted (λ u r. avoids-class any (none-of "\"") 34 (omega arith) (λ c t. not-one 34 c) (texts-referring (none-of "<\"") u r) (ref-avoids (none-of "<\"") 34 quote-foreign refl u r))
-    (λ u r. avoids-class any (none-of "'") 39 (omega arith) (λ c t. not-one 39 c) (texts-referring (none-of "<'") u r) (ref-avoids (none-of "<'") 39 apostrophe-foreign refl u r))
+within-att = within-quoted (referring-without (none-of "<\"") 34 quote-foreign refl) (referring-without (none-of "<'") 39 apostrophe-foreign refl)
 
 pub within-external : Within ExternalID
 unfolding ExternalID

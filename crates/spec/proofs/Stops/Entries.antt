@@ -1,5 +1,5 @@
 -- The progress of the internal subset, whatever the fuel: one entry and then the entries after it. Assumes nothing.
-use mathlib.Core.Bool.{Bool, true, false}
+use mathlib.Core.Bool.{Bool, true}
 use mathlib.Core.List.{List, [], _∷_}
 use mathlib.Core.Path.{_≡_, refl, ap}
 use Prim.Native.Nat.{ℕ, zero, suc, _≤_, _<_}
@@ -14,6 +14,7 @@ use Rattle.spec.specs.Reading.Readers.{Result, ok, err, Reader, starts, 
 use Rattle.spec.specs.Reading.Dtd.{skip-s, parse-pe-reference, parse-markup-decl}
 use Rattle.spec.specs.Reading.Stops.{Progress, stopped, further, of-part, part, on-passed, _⊳_, subset-progress}
 use Rattle.spec.proofs.Base.Loops.{Somes}
+use Rattle.spec.proofs.Base.Results.{both-pick}
 use Rattle.spec.proofs.Dtd.Items.{some-reference, some-markup}
 
 -- the same progress where what comes after r is the same on every shorter text
@@ -38,13 +39,9 @@ module _ (D : Dialect) where
   unfolding entry starts
   entry-same n m pe [] h = refl
   entry-same n m pe (b ∷ w) h =
-      both (starts (ascii "]") (b ∷ w)) _ _ _ _ refl
-      (both (starts (ascii "%") (b ∷ w)) _ _ _ _ (then-same (parse-pe-reference D) (n true) (m true) (some-reference D) b w (λ y l. h true y (omega arith)))
-      (both (starts (ascii "<") (b ∷ w)) _ _ _ _ (then-same (parse-markup-decl D pe) (n pe) (m pe) (some-markup D pe) b w (λ y l. h pe y (omega arith))) refl))
-    where
-      both : (t : Bool) (p q p' q' : Progress) → p ≡ p' → q ≡ q' → pick t p q ≡ pick t p' q'
-      both true p q p' q' e f = e
-      both false p q p' q' e f = f
+      both-pick (_≡_ {A = Progress}) (starts (ascii "]") (b ∷ w)) refl
+      (both-pick (_≡_ {A = Progress}) (starts (ascii "%") (b ∷ w)) (then-same (parse-pe-reference D) (n true) (m true) (some-reference D) b w (λ y l. h true y (omega arith)))
+      (both-pick (_≡_ {A = Progress}) (starts (ascii "<") (b ∷ w)) (then-same (parse-markup-decl D pe) (n pe) (m pe) (some-markup D pe) b w (λ y l. h pe y (omega arith))) refl))
 
   spaced-same : (n m : Bool → List ℕ → Progress) (pe : Bool) (w : List ℕ) → ((t : Bool) (y : List ℕ) → length y < length w → n t y ≡ m t y)
       → (part skip-s ⊳ entry n pe) w ≡ (part skip-s ⊳ entry m pe) w

@@ -19,17 +19,18 @@ use Rattle.spec.proofs.Agreement.Accepts.{Agrees}
 use Rattle.spec.proofs.Agreement.Chars.{ch-some}
 use Rattle.spec.proofs.Agreement.Holds.{contains-after, contains-start, free-holds, holds-free}
 use Rattle.spec.proofs.Agreement.Texts.{texts-star, texts-ch, texts-referring, texts-name}
+use Rattle.spec.proofs.Agreement.Words.{starts-apart}
 use Rattle.spec.proofs.Base.Loops.{through-end, through-none}
 use Rattle.spec.proofs.Base.Results.{err-ok, past-ok, unless-refuses}
 use Rattle.spec.proofs.Base.Somes.{some-legal, some-text, some-attr}
-use Rattle.spec.proofs.Base.Tests.{T→true, true→T, eqb-true, and-left, not-false, both, both-left}
+use Rattle.spec.proofs.Base.Tests.{T→true, true→T, not-false, both, both-left}
 use Rattle.spec.proofs.Characters.Bytes.{avoids, class-avoids, not-one}
 use Rattle.spec.proofs.Characters.LegalBytes.{tail-legal, legal-here}
 use Rattle.spec.proofs.Characters.Text.{star-one, reclass}
 use Rattle.spec.proofs.Characters.Utf8.{encode-1}
 use Rattle.spec.proofs.Dtd.Values.{tail-starts, byte-taken, Free, refs-sound, refs-complete}
 use Rattle.spec.proofs.Wellformed.Names.{AsciiNames, check-name-whole}
-use Rattle.spec.proofs.Wellformed.References.{AR, Foreign}
+use Rattle.spec.proofs.Wellformed.References.{Foreign}
 use Rattle.spec.proofs.Wellformed.Walks.{Step, over-char, walk-sound, walk-complete, walked-referring, referring-walked, walked-free}
 
 -- a legal byte is taken where a Char stands, and only there
@@ -92,12 +93,6 @@ char-refs-agree = record {
 abbrev CD : List ℕ
 CD = ascii "]]>"
 
--- no reference begins with ']'
-cd-ref : (w : List ℕ) → starts AR w ≡ true → starts CD w ≡ false
-unfolding starts
-cd-ref [] e = refl
-cd-ref (b ∷ w) e = ap (λ (z : ℕ). eqb z 93 && starts (ascii "]>") w) (eqb-true b 38 (and-left (eqb b 38) (starts (ascii "#") w) e))
-
 abbrev Here : List ℕ → Type 0
 Here w = starts CD w ≡ false
 
@@ -107,7 +102,7 @@ text-walk = record {
   some = some-text;
   rest = nothing-asked;
   at-tail = λ b w h. rw (tail-starts 93 (ascii "]>") (omega arith) b w h, tail-starts 38 (ascii "#") (omega arith) b w h) (legal-tail b w h);
-  at-ref = λ w e. rw (cd-ref w e, e);
+  at-ref = λ w e. rw (starts-apart 38 93 (ascii "#") (ascii "]>") w refl e, e);
   takes = λ u v c n b. rw (b, n) (legal-takes u v c);
   legal = λ u v k c n q e.
       let (f, g) = unless-refuses section-end (starts CD (u ++ v)) (on "&#" char-ref legal-byte) (u ++ v) k e in
@@ -133,11 +128,6 @@ text-agree = record {
 abbrev unless : ℕ → Bool
 unless c = xml-char c && none-of "<" c
 
-less-ref : (w : List ℕ) → starts AR w ≡ true → starts (ascii "<") w ≡ false
-unfolding starts
-less-ref [] e = refl
-less-ref (b ∷ w) e = ap (λ (z : ℕ). eqb z 60 && true) (eqb-true b 38 (and-left (eqb b 38) (starts (ascii "#") w) e))
-
 -- where a character stands, the sign '<' stands if it is that character
 less-not : (u v : List ℕ) → Ch unless u → starts (ascii "<") (u ++ v) ≡ false
 unfolding starts xml-char
@@ -158,7 +148,7 @@ attr-walk = record {
   some = some-attr;
   rest = nothing-asked;
   at-tail = λ b w h. rw (tail-starts 60 [] (omega arith) b w h, tail-starts 38 (ascii "#") (omega arith) b w h) (legal-tail b w h);
-  at-ref = λ w e. rw (less-ref w e, e);
+  at-ref = λ w e. rw (starts-apart 38 60 (ascii "#") [] w refl e, e);
   takes = λ u v c n b. rw (less-not u v c, n) (legal-takes u v (reclass c (both-left (xml-char (c .char)) (none-of "<" (c .char)) (c .in-class))));
   legal = λ u v k c n q e.
       let (f, g) = unless-refuses less-than (starts (ascii "<") (u ++ v)) (on "&#" char-ref legal-byte) (u ++ v) k e in

@@ -20,9 +20,10 @@ use Rattle.spec.specs.Reading.Wellformed.{char-ref}
 use Rattle.spec.proofs.Agreement.Chars.{ch-some}
 use Rattle.spec.proofs.Agreement.Holds.{contains-avoid, contains-char, starts-shorter, free-holds, holds-free}
 use Rattle.spec.proofs.Agreement.Reads.{Took, drop-took}
+use Rattle.spec.proofs.Agreement.Words.{starts-apart}
 use Rattle.spec.proofs.Base.Loops.{Somes, through-end, through-some, through-none}
 use Rattle.spec.proofs.Base.Results.{err-ok, past-past, past-ok, one-add}
-use Rattle.spec.proofs.Base.Tests.{decide, eqb-true, and-left, and-right, or-false-left, or-false-right}
+use Rattle.spec.proofs.Base.Tests.{decide, and-left, and-right, or-false-left, or-false-right}
 use Rattle.spec.proofs.Characters.Bytes.{Bytes, bytes-of, all-tails}
 use Rattle.spec.proofs.Characters.Text.{ch-any, star-map}
 use Rattle.spec.proofs.Wellformed.References.{AR, char-ref-reads, ref-starts, ref-some, Foreign, avoiding-ref}
@@ -157,11 +158,6 @@ across [] v h n a = absurd (let z : 0 < 0 = h in omega arith)
 across (b ∷ []) v h n a = rw (a, and-false (eqb b 38))
 across (b ∷ d ∷ u) v h n a = or-false-left (eqb b 38 && (eqb d 35 && true)) (contains AR (d ∷ u)) n
 
-no-hash : (w : List ℕ) → starts AR w ≡ true → starts (ascii "#") w ≡ false
-unfolding starts
-no-hash [] e = refl
-no-hash (b ∷ w) e = ap (λ (z : ℕ). eqb z 35 && true) (eqb-true b 38 (and-left (eqb b 38) (starts (ascii "#") w) e))
-
 unref-free : (p : ℕ → Bool) (x : List ℕ) → Unreferring p x → contains AR x ≡ false
 unfolding Unreferring Text
 unref-free p x l = holds-free "&#" 38 (35 ∷ []) refl tt x (star-map (λ w c. ch-any c) (l .0)) (l .1)
@@ -188,7 +184,7 @@ module _ {p : ℕ → Bool} {Q B : List ℕ → Type 0} (rest : (x y : List ℕ)
       let f : v ≡ x ++ (z ++ y) = e ∙ ap (λ (w : List ℕ). w ++ y) (c .split) ∙ append-assoc x z y in
       let g : Q (z ++ y) = rest x (z ++ y) (subst Q f q) in
       let (r, a) = over-refs s (rest z y g) in
-      (ref x (z ++ y) f (c .first) (over-unref y (c .second .0) (unref-free p z (c .second)) a g r), ap (starts (ascii "#")) f ∙ no-hash (x ++ (z ++ y)) (ref-starts x (z ++ y) (c .first)))
+      (ref x (z ++ y) f (c .first) (over-unref y (c .second .0) (unref-free p z (c .second)) a g r), ap (starts (ascii "#")) f ∙ starts-apart 38 35 (ascii "#") [] (x ++ (z ++ y)) refl (ref-starts x (z ++ y) (c .first)))
 
   pub referring-walked : (w : List ℕ) → Referring p w → Q w → Walked p B w
   unfolding Referring Unreferring
