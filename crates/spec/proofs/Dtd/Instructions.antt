@@ -34,16 +34,17 @@ use Rattle.spec.proofs.Agreement.Holds.{contains-avoid, contains-after,
 use Rattle.spec.proofs.Dtd.Notations.{no-colon}
 use Rattle.spec.proofs.Wellformed.Names.{AsciiNames, start-sign, part-sign, check-name-whole}
 
-abbrev pub QG : List ℕ
-QG = 63 ∷ 62 ∷ []
+-- what ends an instruction
+abbrev pub pi-close : List ℕ
+pi-close = ascii "?>"
 
 abbrev pub Unmarked : Lang
 Unmarked = Text ∖ (Text · lit "?>" · Text)
 
-unmarked-free : (u : List ℕ) → Unmarked u → contains QG u ≡ false
+unmarked-free : (u : List ℕ) → Unmarked u → contains pi-close u ≡ false
 unmarked-free u x = holds-free "?>" 63 (62 ∷ []) refl tt u (x .0) (x .1)
 
-free-unmarked : (u : List ℕ) → Star (Ch any) u → contains QG u ≡ false → Unmarked u
+free-unmarked : (u : List ℕ) → Star (Ch any) u → contains pi-close u ≡ false → Unmarked u
 unfolding Text
 free-unmarked u s f = (s, free-holds "?>" 63 (62 ∷ []) refl tt u f)
 
@@ -138,15 +139,15 @@ module _ (D : Dialect) (A : AsciiNames D) where
       let f : (not (start-sign a) && not (part-sign a)) ≡ true = and-right (ltb a 128) (not (start-sign a) && not (part-sign a)) e in
       sign-avoids a (leb-true (suc a) 128 (and-left (ltb a 128) (not (start-sign a) && not (part-sign a)) e)) (not-true (start-sign a) (and-left (not (start-sign a)) (not (part-sign a)) f)) (not-true (part-sign a) (and-right (not (start-sign a)) (not (part-sign a)) f)) t x)
 
-  pub inner-free : (u : List ℕ) → Inner u → contains QG u ≡ false
+  pub inner-free : (u : List ℕ) → Inner u → contains pi-close u ≡ false
   unfolding S contains
-  inner-free u c = ap (contains QG) (c .split) ∙ contains-avoid 63 (62 ∷ []) (c .left) (c .right) (sign-avoids 63 (omega arith) refl refl (c .left) (c .first)) ∙ go (c .right) (c .second)
+  inner-free u c = ap (contains pi-close) (c .split) ∙ contains-avoid 63 (62 ∷ []) (c .left) (c .right) (sign-avoids 63 (omega arith) refl refl (c .left) (c .first)) ∙ go (c .right) (c .second)
     where
-      go : (o : List ℕ) → Opt (S · Unmarked) o → contains QG o ≡ false
-      go o (inr e) = ap (contains QG) e
+      go : (o : List ℕ) → Opt (S · Unmarked) o → contains pi-close o ≡ false
+      go o (inr e) = ap (contains pi-close) e
       go o (inl l) =
           let s : Plus (Ch space) (l .left) = l .first in
-          ap (contains QG) (l .split) ∙ contains-avoid 63 (62 ∷ []) (l .left) (l .right) (class-avoids space 63 (omega arith) refl (plus-star s)) ∙ unmarked-free (l .right) (l .second)
+          ap (contains pi-close) (l .split) ∙ contains-avoid 63 (62 ∷ []) (l .left) (l .right) (class-avoids space 63 (omega arith) refl (plus-star s)) ∙ unmarked-free (l .right) (l .second)
 
   space-run : (o : List ℕ) → Opt (S · Unmarked) o → run solid o ≡ 0
   unfolding S run
@@ -165,7 +166,7 @@ module _ (D : Dialect) (A : AsciiNames D) where
       let r : run solid (t ++ c .right) ≡ length t = run-solid t (c .right) (target-avoids (ascii " \t\r\n") refl t (c .first)) (space-run (c .right) (c .second)) in
       (j, rw (c .split, r, take-append-seam t (c .right)) e)
 
-  inner-sound : (u : List ℕ) (j : ℕ) → Star (Ch any) u → contains QG u ≡ false → check-pi D u ≡ ok j → Inner u
+  inner-sound : (u : List ℕ) (j : ℕ) → Star (Ch any) u → contains pi-close u ≡ false → check-pi D u ≡ ok j → Inner u
   unfolding check-pi Text S
   inner-sound u j tu f e = go (solid-split u)
     where
@@ -184,7 +185,7 @@ module _ (D : Dialect) (A : AsciiNames D) where
           let l : b < 128 = space-ascii b s in
           let te : Star (Ch any) t = text-front t b r l k tu in
           let tr : Star (Ch any) r = text-rest r (star-one (ascii-char any b l tt)) (text-rest (b ∷ r) te (subst (Star (Ch any)) k tu)) in
-          let g : contains QG r ≡ false = contains-after QG (b ∷ []) r (contains-after QG t (b ∷ r) (ap (contains QG) (sym k) ∙ f)) in
+          let g : contains pi-close r ≡ false = contains-after pi-close (b ∷ []) r (contains-after pi-close t (b ∷ r) (ap (contains pi-close) (sym k) ∙ f)) in
           record {
             left = t;
             right = b ∷ r;

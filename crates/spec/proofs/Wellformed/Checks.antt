@@ -90,11 +90,11 @@ char-refs-agree = record {
 }
 
 -- check_text: "]]>" stands nowhere
-abbrev CD : List ℕ
-CD = ascii "]]>"
+abbrev section-close : List ℕ
+section-close = ascii "]]>"
 
 abbrev Here : List ℕ → Type 0
-Here w = starts CD w ≡ false
+Here w = starts section-close w ≡ false
 
 text-walk : Step text-step xml-char Free Here
 unfolding text-step on choose
@@ -105,7 +105,7 @@ text-walk = record {
   at-ref = λ w e. rw (starts-apart 38 93 (ascii "#") (ascii "]>") w refl e, e);
   takes = λ u v c n b. rw (b, n) (legal-takes u v c);
   legal = λ u v k c n q e.
-      let (f, g) = unless-refuses section-end (starts CD (u ++ v)) (on "&#" char-ref legal-byte) (u ++ v) k e in
+      let (f, g) = unless-refuses section-end (starts section-close (u ++ v)) (on "&#" char-ref legal-byte) (u ++ v) k e in
       (reclass c (legal-char u v k c (rw n at g)), f);
 }
 
@@ -120,7 +120,7 @@ text-agree = record {
       (walked-referring r, free-holds "]]>" 93 (ascii "]>") refl tt w (walked-free 93 (ascii "]>") bracket-foreign r));
   complete = λ w l.
       let f = holds-free "]]>" 93 (ascii "]>") refl tt w (unfold Text in texts-referring xml-char w (l .0)) (l .1) in
-      (length w, walk-complete text-walk (referring-walked {Q = λ x. contains CD x ≡ false} {B = Here} (contains-after CD) (contains-start 93 (ascii "]>")) w (l .0) f));
+      (length w, walk-complete text-walk (referring-walked {Q = λ x. contains section-close x ≡ false} {B = Here} (contains-after section-close) (contains-start 93 (ascii "]>")) w (l .0) f));
   text = λ w l. unfold Text in texts-referring xml-char w (l .0);
 }
 

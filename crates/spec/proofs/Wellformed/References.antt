@@ -104,13 +104,13 @@ char-ref-reads =
         ∙ starts-clash (ascii "&#x") (ascii "&#") digit (l .right ++ v) tt (reference-reads 10 digit digit-ascii (by-signs tt) .leads (l .right) v (l .second) t)
 
 -- each begins with "&#"
-abbrev pub AR : List ℕ
-AR = ascii "&#"
+abbrev pub ref-open : List ℕ
+ref-open = ascii "&#"
 
-pub ref-starts : (u v : List ℕ) → CharRef u → starts AR (u ++ v) ≡ true
+pub ref-starts : (u v : List ℕ) → CharRef u → starts ref-open (u ++ v) ≡ true
 unfolding CharRef starts
 ref-starts u v (inl l) = starts-lit "&#" v l
-ref-starts u v (inr l) = ap (starts AR) (ap (λ (z : List ℕ). z ++ v) (l .split ∙ ap (λ (z : List ℕ). z ++ l .right) (l .first)))
+ref-starts u v (inr l) = ap (starts ref-open) (ap (λ (z : List ℕ). z ++ v) (l .split ∙ ap (λ (z : List ℕ). z ++ l .right) (l .first)))
 
 pub ref-some : (u : List ℕ) → CharRef u → 0 < length u
 unfolding starts

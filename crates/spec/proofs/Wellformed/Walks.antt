@@ -26,7 +26,7 @@ use Rattle.spec.proofs.Base.Results.{err-ok, past-past, past-ok, one-ad
 use Rattle.spec.proofs.Base.Tests.{decide, and-left, and-right, or-false-left, or-false-right}
 use Rattle.spec.proofs.Characters.Bytes.{Bytes, bytes-of, all-tails}
 use Rattle.spec.proofs.Characters.Text.{ch-any, star-map}
-use Rattle.spec.proofs.Wellformed.References.{AR, char-ref-reads, ref-starts, ref-some, Foreign, avoiding-ref}
+use Rattle.spec.proofs.Wellformed.References.{ref-open, char-ref-reads, ref-starts, ref-some, Foreign, avoiding-ref}
 
 -- over a character, where a step takes its first byte and any tail
 module _ (S : Reader) (some : Somes S) (at-tail : (b : ℕ) (w : List ℕ) → tail b ≡ true → S (b ∷ w) ≡ ok 1) where
@@ -55,16 +55,16 @@ module _ (S : Reader) (some : Somes S) (at-tail : (b : ℕ) (w : List ℕ) → t
 pub data Walked (p : ℕ → Bool) (B : List ℕ → Type 0) : List ℕ → Type 0 where
   done : {w : List ℕ} → w ≡ [] → Walked p B w
   ref : {w : List ℕ} (u v : List ℕ) → w ≡ u ++ v → CharRef u → Walked p B v → Walked p B w
-  chr : {w : List ℕ} (u v : List ℕ) → w ≡ u ++ v → Ch p u → starts AR (u ++ v) ≡ false → B (u ++ v) → Walked p B v → Walked p B w
+  chr : {w : List ℕ} (u v : List ℕ) → w ≡ u ++ v → Ch p u → starts ref-open (u ++ v) ≡ false → B (u ++ v) → Walked p B v → Walked p B w
 
 -- A step of a walk: over a reference, over a tail, and over the first byte of a character; Q is what is known of the text beforehand
 pub record Step (S : Reader) (p : ℕ → Bool) (Q B : List ℕ → Type 0) : Type 0 where
   pub some : Somes S
   pub rest : (x y : List ℕ) → Q (x ++ y) → Q y
   pub at-tail : (b : ℕ) (w : List ℕ) → tail b ≡ true → S (b ∷ w) ≡ ok 1
-  pub at-ref : (w : List ℕ) → starts AR w ≡ true → S w ≡ char-ref w
-  pub takes : (u v : List ℕ) → Ch p u → starts AR (u ++ v) ≡ false → B (u ++ v) → S (u ++ v) ≡ ok 1
-  pub legal : (u v : List ℕ) (k : ℕ) → Ch any u → starts AR (u ++ v) ≡ false → Q (u ++ v) → S (u ++ v) ≡ ok k → Ch p u × B (u ++ v)
+  pub at-ref : (w : List ℕ) → starts ref-open w ≡ true → S w ≡ char-ref w
+  pub takes : (u v : List ℕ) → Ch p u → starts ref-open (u ++ v) ≡ false → B (u ++ v) → S (u ++ v) ≡ ok 1
+  pub legal : (u v : List ℕ) (k : ℕ) → Ch any u → starts ref-open (u ++ v) ≡ false → Q (u ++ v) → S (u ++ v) ≡ ok k → Ch p u × B (u ++ v)
 
 module _ {S : Reader} {p : ℕ → Bool} {Q B : List ℕ → Type 0} (st : Step S p Q B) where
   -- what the walk accepts, it went through
@@ -73,7 +73,7 @@ module _ {S : Reader} {p : ℕ → Bool} {Q B : List ℕ → Type 0} (st : Step 
   walk-to zero w k h (end f) q e = done f
   walk-to zero w k h (more x y f c s) q e = absurd (let z : 0 < length x = ch-some x c in omega (arith, ap length f ∙ length-append x y))
   walk-to (suc d) w k h (end f) q e = done f
-  walk-to (suc d) w k h (more x y f c s) q e = go (decide (starts AR w)) (λ z m. walk-to d z m)
+  walk-to (suc d) w k h (more x y f c s) q e = go (decide (starts ref-open w)) (λ z m. walk-to d z m)
     where
       size : length w ≡ length x + length y
       size = ap length f ∙ length-append x y
@@ -85,7 +85,7 @@ module _ {S : Reader} {p : ℕ → Bool} {Q B : List ℕ → Type 0} (st : Step 
       rest-of : (z : List ℕ) (j : ℕ) → throughout S w ≡ past j (throughout S z) → (m : ℕ) × (throughout S z ≡ ok m)
       rest-of z j g = let (m, f, _) = past-ok j k (throughout S z) (sym g ∙ e) in (m, f)
 
-      by-ref : ((z : List ℕ) (m : ℕ) → length z ≤ d → Text z → Q z → throughout S z ≡ ok m → Walked p B z) → starts AR w ≡ true → (a : Result) → char-ref w ≡ a → Walked p B w
+      by-ref : ((z : List ℕ) (m : ℕ) → length z ≤ d → Text z → Q z → throughout S z ≡ ok m → Walked p B z) → starts ref-open w ≡ true → (a : Result) → char-ref w ≡ a → Walked p B w
       by-ref ih a (err n) g = absurd (err-ok n k (sym (through-none S w n (let l = size in let z = some-x in omega arith) (st .at-ref w a ∙ g)) ∙ e))
       by-ref ih a (ok j) g =
           let t : Took CharRef j w = char-ref-reads .sound w j (more x y f c s) g in
@@ -97,17 +97,17 @@ module _ {S : Reader} {p : ℕ → Bool} {Q B : List ℕ → Type 0} (st : Step 
           let o : 0 < length (t .taken) = ref-some (t .taken) (t .holds) in
           ref (t .taken) (t .rest) (t .split) (t .holds) (ih (t .rest) m (omega arith) (t .left) (st .rest (t .taken) (t .rest) (subst Q (t .split) q)) r)
 
-      by-char : ((z : List ℕ) (m : ℕ) → length z ≤ d → Text z → Q z → throughout S z ≡ ok m → Walked p B z) → starts AR w ≡ false → (a : Result) → S w ≡ a → Walked p B w
+      by-char : ((z : List ℕ) (m : ℕ) → length z ≤ d → Text z → Q z → throughout S z ≡ ok m → Walked p B z) → starts ref-open w ≡ false → (a : Result) → S w ≡ a → Walked p B w
       by-char ih n (err m) g = absurd (err-ok m k (sym (through-none S w m (let l = size in let z = some-x in omega arith) g) ∙ e))
       by-char ih n (ok j) g =
-          let o : starts AR (x ++ y) ≡ false = ap (starts AR) (sym f) ∙ n in
+          let o : starts ref-open (x ++ y) ≡ false = ap (starts ref-open) (sym f) ∙ n in
           let (i, b) = st .legal x y j c o (subst Q f q) (ap S (sym f) ∙ g) in
           let l = size in
           let z = some-x in
           let (m, r) = rest-of y (length x) (ap (throughout S) f ∙ over-char S (st .some) (st .at-tail) x y i (st .takes x y i o b)) in
           chr x y f i o b (ih y m (omega arith) s (st .rest x y (subst Q f q)) r)
 
-      go : (starts AR w ≡ true) ⊎ (starts AR w ≡ false) → ((z : List ℕ) (m : ℕ) → length z ≤ d → Text z → Q z → throughout S z ≡ ok m → Walked p B z) → Walked p B w
+      go : (starts ref-open w ≡ true) ⊎ (starts ref-open w ≡ false) → ((z : List ℕ) (m : ℕ) → length z ≤ d → Text z → Q z → throughout S z ≡ ok m → Walked p B z) → Walked p B w
       go (Logic.inl a) ih = by-ref ih a (char-ref w) refl
       go (Logic.inr a) ih = by-char ih a (S w) refl
 
@@ -126,13 +126,13 @@ module _ {S : Reader} {p : ℕ → Bool} {Q B : List ℕ → Type 0} (st : Step 
       rw e (over-char S (st .some) (st .at-tail) u v c (st .takes u v c n b) ∙ ap (past (length u)) (walk-complete r) ∙ ap ok (sym (length-append u v)))
 
 -- A walk's way is text of the class around references
-unref-more : (p : ℕ → Bool) (u x : List ℕ) → Ch p u → starts AR (u ++ x) ≡ false → Unreferring p x → Unreferring p (u ++ x)
+unref-more : (p : ℕ → Bool) (u x : List ℕ) → Ch p u → starts ref-open (u ++ x) ≡ false → Unreferring p x → Unreferring p (u ++ x)
 unfolding Unreferring
 unref-more p u x c n l = (
   more u x refl c (l .0),
   free-holds "&#" 38 (35 ∷ []) refl tt (u ++ x)
-      (ap (contains AR) (ap (λ (z : List ℕ). z ++ x) (c .bytes)) ∙ contains-char 38 (35 ∷ []) (c .char) x (omega arith)
-      ∙ (λ i. (ap (λ (z : List ℕ). starts AR (z ++ x)) (sym (c .bytes)) ∙ n) i || holds-free "&#" 38 (35 ∷ []) refl tt x (unfold Text in star-map (λ w d. ch-any d) (l .0)) (l .1) i)),
+      (ap (contains ref-open) (ap (λ (z : List ℕ). z ++ x) (c .bytes)) ∙ contains-char 38 (35 ∷ []) (c .char) x (omega arith)
+      ∙ (λ i. (ap (λ (z : List ℕ). starts ref-open (z ++ x)) (sym (c .bytes)) ∙ n) i || holds-free "&#" 38 (35 ∷ []) refl tt x (unfold Text in star-map (λ w d. ch-any d) (l .0)) (l .1) i)),
 )
 
 unref-none : (p : ℕ → Bool) → Unreferring p []
@@ -149,31 +149,31 @@ walked-referring {p} (ref u v e c r) =
 walked-referring {p} (chr u v e c n b r) =
     let l = walked-referring r in
     let f : u ++ v ≡ (u ++ l .left) ++ l .right = ap (λ (z : List ℕ). u ++ z) (l .split) ∙ sym (append-assoc u (l .left) (l .right)) in
-    record { left = u ++ l .left; right = l .right; split = e ∙ f; first = unref-more p u (l .left) c (starts-shorter AR (u ++ l .left) (l .right) (ap (starts AR) (sym f) ∙ n)) (l .first); second = l .second }
+    record { left = u ++ l .left; right = l .right; split = e ∙ f; first = unref-more p u (l .left) c (starts-shorter ref-open (u ++ l .left) (l .right) (ap (starts ref-open) (sym f) ∙ n)) (l .first); second = l .second }
 
 -- "&#" does not begin across the end of a text without it, where no '#' follows
-across : (u v : List ℕ) → 0 < length u → contains AR u ≡ false → starts (ascii "#") v ≡ false → starts AR (u ++ v) ≡ false
+across : (u v : List ℕ) → 0 < length u → contains ref-open u ≡ false → starts (ascii "#") v ≡ false → starts ref-open (u ++ v) ≡ false
 unfolding contains starts
 across [] v h n a = absurd (let z : 0 < 0 = h in omega arith)
 across (b ∷ []) v h n a = rw (a, and-false (eqb b 38))
-across (b ∷ d ∷ u) v h n a = or-false-left (eqb b 38 && (eqb d 35 && true)) (contains AR (d ∷ u)) n
+across (b ∷ d ∷ u) v h n a = or-false-left (eqb b 38 && (eqb d 35 && true)) (contains ref-open (d ∷ u)) n
 
-unref-free : (p : ℕ → Bool) (x : List ℕ) → Unreferring p x → contains AR x ≡ false
+unref-free : (p : ℕ → Bool) (x : List ℕ) → Unreferring p x → contains ref-open x ≡ false
 unfolding Unreferring Text
 unref-free p x l = holds-free "&#" 38 (35 ∷ []) refl tt x (star-map (λ w c. ch-any c) (l .0)) (l .1)
 
 -- Such a text is a walk's way, where what is known of it, Q, gives B at each place
 module _ {p : ℕ → Bool} {Q B : List ℕ → Type 0} (rest : (x y : List ℕ) → Q (x ++ y) → Q y) (good : (w : List ℕ) → Q w → B w) where
-  over-unref : {u : List ℕ} (v : List ℕ) → Star (Ch p) u → contains AR u ≡ false → starts (ascii "#") v ≡ false → Q (u ++ v) → Walked p B v → Walked p B (u ++ v)
+  over-unref : {u : List ℕ} (v : List ℕ) → Star (Ch p) u → contains ref-open u ≡ false → starts (ascii "#") v ≡ false → Q (u ++ v) → Walked p B v → Walked p B (u ++ v)
   over-unref v (end e) n a q r = subst (λ (z : List ℕ). Walked p B (z ++ v)) (sym e) r
   over-unref {u} v (more x y e c s) n a q r =
       let z : 0 < length x = ch-some x c in
       let k : length u ≡ length x + length y = ap length e ∙ length-append x y in
       let f : u ++ v ≡ x ++ (y ++ v) = ap (λ (z : List ℕ). z ++ v) e ∙ append-assoc x y v in
-      let m : (starts AR (encode (c .char) ++ y) || contains AR y) ≡ false = sym (contains-char 38 (35 ∷ []) (c .char) y (omega arith)) ∙ ap (contains AR) (sym (e ∙ ap (λ (z : List ℕ). z ++ y) (c .bytes))) ∙ n in
-      let o : starts AR (x ++ (y ++ v)) ≡ false = ap (starts AR) (sym f) ∙ across u v (omega arith) n a in
+      let m : (starts ref-open (encode (c .char) ++ y) || contains ref-open y) ≡ false = sym (contains-char 38 (35 ∷ []) (c .char) y (omega arith)) ∙ ap (contains ref-open) (sym (e ∙ ap (λ (z : List ℕ). z ++ y) (c .bytes))) ∙ n in
+      let o : starts ref-open (x ++ (y ++ v)) ≡ false = ap (starts ref-open) (sym f) ∙ across u v (omega arith) n a in
       let g : Q (x ++ (y ++ v)) = subst Q f q in
-      chr x (y ++ v) f c o (good (x ++ (y ++ v)) g) (over-unref v s (or-false-right (starts AR (encode (c .char) ++ y)) (contains AR y) m) a (rest x (y ++ v) g) r)
+      chr x (y ++ v) f c o (good (x ++ (y ++ v)) g) (over-unref v s (or-false-right (starts ref-open (encode (c .char) ++ y)) (contains ref-open y) m) a (rest x (y ++ v) g) r)
 
   over-refs : {v : List ℕ} → Star (CharRef · Unreferring p) v → Q v → Walked p B v × (starts (ascii "#") v ≡ false)
   unfolding Unreferring starts
