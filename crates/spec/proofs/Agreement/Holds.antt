@@ -1,4 +1,4 @@
--- A word that stands nowhere in a text: the test, and the grammar's "Text word Text", for any word. Assumes nothing.
+-- Where a word stands in a text, and where nowhere: the tests, its first place, and the grammar's "Text word Text". Assumes nothing.
 use mathlib.Core.Bool.{Bool, true, false, _&&_, _||_, not, true≢false, and-true}
 use mathlib.Core.List.{List, [], _∷_, _++_, append-nil}
 use mathlib.Core.Path.{_≡_, refl, sym, _∙_, ap, subst}

@@ -1,4 +1,4 @@
--- The text's end, and readers of whole texts. Assumes nothing.
+-- The text's end, white space before it, and readers of whole texts. Assumes nothing.
 use mathlib.Core.Bool.{Bool, true, false}
 use mathlib.Core.List.{List, [], _∷_, _++_, append-nil}
 use mathlib.Core.Path.{_≡_, refl, sym, _∙_, ap, subst}

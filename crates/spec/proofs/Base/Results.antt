@@ -1,4 +1,4 @@
--- Answers of readers: what they can't be at once, and numbers. Assumes nothing.
+-- Answers of readers: what they can't be at once, how one that is `ok` came about, and numbers. Assumes nothing.
 use mathlib.Core.Bool.{Bool, true, false}
 use mathlib.Core.List.{List}
 use mathlib.Core.Path.{_≡_, refl, ap}
@@ -24,6 +24,7 @@ pub past-past : (j k : ℕ) (a : Result) → past j (past k a) ≡ past (j + k) 
 past-past j k (ok n) = ap ok (let e : j + (k + n) ≡ j + k + n = omega arith in e)
 past-past j k (err n) = refl
 
+-- so they are part of what was taken
 pub past-ok : (j k : ℕ) (a : Result) → past j a ≡ ok k → (m : ℕ) × (a ≡ ok m) × (j + m ≡ k)
 past-ok j k (ok m) e = (m, refl, ok-inj (j + m) k e)
 past-ok j k (err n) e = absurd (err-ok n k e)

@@ -1,4 +1,4 @@
--- Tests and the facts that they stand for. Assumes nothing.
+-- Tests and the facts that they stand for; tests of signs. Assumes nothing.
 use mathlib.Core.Bool.{Bool, true, false, _&&_, _||_, not, true≢false, or-false}
 use mathlib.Core.List.{List, [], _∷_}
 use mathlib.Core.Logic.{_⊎_, inl, inr, ⊎-elim}
@@ -25,6 +25,7 @@ pub false→no : (b : Bool) → b ≡ false → T b → ⊥
 false→no true e t = true≢false e
 false→no false e t = t
 
+-- of a test turned round
 pub not-true : (b : Bool) → not b ≡ true → b ≡ false
 not-true true e = absurd (true≢false (sym e))
 not-true false e = refl

@@ -36,7 +36,7 @@ use Rattle.spec.proofs.Dtd.Literals.{external-id-reads}
 use Rattle.spec.proofs.Dtd.Subset.{Written, subset-reads}
 use Rattle.spec.proofs.Wellformed.Names.{AsciiNames, ends-name, start-first, name-reads}
 
-module _ (D : Dialect) (A : AsciiNames D) where
+module _ (D : Dialect) where
   -- a name ends where no name character stands
   munch : (w : List ℕ) (k : ℕ) → name D w ≡ ok k → begins (D .part) (drop k w) ≡ false
   unfolding name parts while begins decode1
@@ -105,10 +105,11 @@ module _ (D : Dialect) (A : AsciiNames D) (M : Bool → Lang) (reads-markup : (p
   bracket : ((In-brackets ∣ ε) · ε) ≅ Bracketed
   bracket = none-after then either (cat₂ assoc) same
 
-  -- what is read is what is written, or has an external identifier directly after the name
+  -- what is written, with an external identifier and without
   tail-split : Tail ≅ ((S · ExternalID · S? · Bracketed) ∣ (S? · Bracketed))
   tail-split = over-left then either assoc none-before
 
+  -- what is read is what is written, or begins with the external identifier itself
   raw-tail : Raw ≅ (Tail ∣ (ExternalID · S? · Bracketed))
   raw-tail =
       cat₂ (cat₂ bracket then over-left then either assoc none-before) then over-right then either some-space same
@@ -117,6 +118,7 @@ module _ (D : Dialect) (A : AsciiNames D) (M : Bool → Lang) (reads-markup : (p
       some-space : {X : Lang} → (S? · X) ≅ ((S · X) ∣ X)
       some-space = unfold S S? in (cat (back plus-or-none) same then over-left then either same none-before)
 
+  -- which it cannot where no name character stands
   tail-of : (w : List ℕ) → begins (D .part) w ≡ false → Raw w → Tail w
   tail-of w n c = go (raw-tail .to w c)
     where
@@ -160,7 +162,7 @@ module _ (D : Dialect) (A : AsciiNames D) (M : Bool → Lang) (reads-markup : (p
   unfolding check-doctype
   doctype-reads = record {
     sound = sound-seq skip-s _ S? (Name D · Tail) (skip not-space sub-refl .sound)
-        (sound-after (λ w. begins (D .part) w ≡ false) (name D) tail-reader (Name D) Tail (name-reads D A .sound) (munch D A) tail-sound);
+        (sound-after (λ w. begins (D .part) w ≡ false) (name D) tail-reader (Name D) Tail (name-reads D A .sound) (munch D) tail-sound);
     complete = complete-seq skip-s _ S? (Name D · Tail) (Next start-first) (Next stop) (skip start-first (by-signs tt) .complete)
         (complete-seq (name D) tail-reader (Name D) Tail (Next ends-name) (Next stop) (name-reads D A .complete) (λ u v c t. raw-reads .complete u v (raw-tail .from u (inl c)) t) meet)
         (λ u v c t. record { it = subst (λ (q : List ℕ). T (start-first (kind q))) (sym (cat-before c v)) (name-reads D A .leads (c .left) (c .right ++ v) (c .first) (meet (c .right) v (c .second) t)) });

@@ -1,4 +1,4 @@
--- The internal subset, over any reader of its declarations. Assumes nothing.
+-- The internal subset as a list of entries, as it is written and as it is read, over any reader of its declarations. Assumes nothing.
 use mathlib.Core.Bool.{Bool, true, false}
 use mathlib.Core.List.{List, [], _∷_, _++_, append-assoc, append-nil}
 use mathlib.Core.Path.{_≡_, refl, sym, _∙_, ap, subst}
