@@ -1,7 +1,9 @@
 //! The two numbers that stand in front of every call: too long, and not UTF-8.
 use moxkeldi::*;
 
-const CHECKS: [fn(&[u8]) -> Result<(), Refusal>; 8] = [
+type Check = fn(&[u8]) -> Result<(), Refusal>;
+
+const CHECKS: [Check; 8] = [
     check_chars,
     check_text,
     check_attr_value,

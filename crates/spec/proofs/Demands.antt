@@ -94,7 +94,8 @@ not-both = apart appendix-B appendix-B-ascii
 pub one-way-only : (w : List ℕ) (a b : Division appendix-B w) → (a .entries ≡ b .entries) × (a .opening ≡ b .opening) × (a .closing ≡ b .closing)
 one-way-only = one-division appendix-B appendix-B-ascii
 
--- Of every front part the scan says where the division's '[' and ']' are, where the premise holds; of a text without a subset, nothing.
+-- Wherever a text is cut that demand 3 speaks of, the scan says of the front part whether the subset's '[' and the ']' that closes it
+-- are in it, and names that ']'; of a text without a subset it says "not opened".
 pub cut-anywhere : (t : List ℕ) (c : Covered appendix-B t) (cut : ℕ) → scan (take cut t) ≡ expected appendix-B c cut
 cut-anywhere = cuts-covered appendix-B appendix-B-ascii
 
