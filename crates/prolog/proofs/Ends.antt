@@ -3,7 +3,7 @@ use mathlib.Core.Path.{_≡_, refl, sym, ap, _∙_}
 use mathlib.Core.Bool.{Bool, true, false, _||_}
 use mathlib.Core.List.{List, [], _∷_}
 use mathlib.Core.Logic.{_⊎_, inl, inr}
-use Prim.Native.Nat.{ℕ, zero, suc, _+_, _^_, _<_, _≤_}
+use Prim.Native.Nat.{ℕ, zero, suc, _+_, _^_, _<_}
 use Prim.Native.String.{String}
 use native.Mathlib.Nat.{add-zero}
 use native.Mathlib.Omega.{arith}
@@ -15,7 +15,7 @@ use lib.ListN.{length, getD, drop, length-drop}
 use lib.Seq.{drop-drop}
 use Rattle.spec.specs.Basics.{pick}
 use Rattle.spec.specs.Grammar.Languages.{ascii, one-of}
-use Rattle.spec.specs.Reading.Prolog.{word-at, head-end, after-head, after-subset, doctype-end}
+use Rattle.spec.specs.Reading.Prolog.{word-at, head-end, after-subset, doctype-end}
 use Rattle.spec.specs.Reading.Readers.{starts, contains, before}
 use Rattle.spec.specs.Reading.Scan.{Place, at, nowhere, later, subset-end}
 use Rattle.spec.proofs.Base.Places.{drop-at}
@@ -27,7 +27,7 @@ use Rattle.search.specs.declared.places.Found.{Found}
 use Rattle.search.specs.declared.places.Found.the-variants.{Here, Nowhere}
 use Rattle.search.specs.Runs.{away}
 use Rattle.scan.specs.Answers.{placed, stop}
-use Rattle.scan.proofs.Answering.{was-at, was-nowhere, later-within}
+use Rattle.scan.proofs.Answering.{later-within}
 use Rattle.scan.proofs.Passes.{Pass, marks, from, pass-to, passes}
 use Rattle.prolog.specs.Answers.{place-from}
 
@@ -77,26 +77,26 @@ head-within zero (b ∷ w) i e = go (one-of "[>" b) e (head-within (pick (one-of
 head-within (suc q) (b ∷ w) i e = later-within (length w) (head-end (pick (eqb b (suc q)) 0 (suc q)) w) i e (head-within (pick (eqb b (suc q)) 0 (suc q)) w)
 
 -- the rule's place from the code's, which is counted from the text's first byte
-pub later-none : (k : ℕ) (p : Place) → later k p ≡ nowhere → p ≡ nowhere
-later-none k nowhere e = refl
-later-none k (at n) e = absurd (nowhere-at (k + n) (sym e))
-
-pub later-some : (k : ℕ) (p : Place) (j : ℕ) → later k p ≡ at j → (n : ℕ) × (p ≡ at n) × (j ≡ k + n)
-later-some k nowhere j e = absurd (nowhere-at j e)
-later-some k (at n) j e = (n, refl, sym (at-inj (k + n) j e))
-
 module _ (f : List ℕ → Place) (s : List ℕ) (from : ℕ) (r : Found) (a : r ≡ place-from f s from) where
   pub from-nowhere : r ≡ Nowhere → f (drop from s) ≡ nowhere
   unfolding place-from
-  from-nowhere b = later-none from (f (drop from s)) (was-nowhere (later from (f (drop from s))) r a b)
+  from-nowhere b = go (f (drop from s)) a
+    where
+      go : (p : Place) → r ≡ placed (later from p) → p ≡ nowhere
+      go nowhere e = refl
+      go (at n) e = let z : _≡_ {A = ℕ} 0 1 = cc in absurd (omega arith)
 
   pub from-here : (j : ℕ) → r ≡ Here j → (n : ℕ) × (f (drop from s) ≡ at n) × (j ≡ from + n)
   unfolding place-from
-  from-here j b = later-some from (f (drop from s)) j (was-at (later from (f (drop from s))) r j a b)
+  from-here j b = go (f (drop from s)) refl a
+    where
+      go : (p : Place) → f (drop from s) ≡ p → r ≡ placed (later from p) → (n : ℕ) × (f (drop from s) ≡ at n) × (j ≡ from + n)
+      go nowhere g e = let z : _≡_ {A = ℕ} 0 1 = cc in absurd (omega arith)
+      go (at n) g e = (n, g, cc)
 
 -- the first place of a word, as find gives it and as the rule does
-pub word-from : (k : String) (s : List ℕ) (from : ℕ) → first-place (ascii k) s from ≡ placed (later from (word-at k (drop from s)))
-unfolding first-place word-at
+pub word-from : (k : String) (s : List ℕ) (from : ℕ) → first-place (ascii k) s from ≡ place-from (word-at k) s from
+unfolding first-place place-from word-at
 word-from k s from = go (contains (ascii k) (drop from s))
   where
     go : (t : Bool) → pick t (Here (from + before (ascii k) (drop from s))) Nowhere ≡ placed (later from (pick t (at (before (ascii k) (drop from s))) nowhere))
@@ -117,45 +117,27 @@ module _ (s : List ℕ) (from : ℕ) (h : Found) (a : h ≡ place-from (head-end
 
     -- t says whether it ends with '>'
     module _ (t : Bool) (c : t ≡ starts (ascii ">") (drop i s)) where
-      by-head : (n : ℕ) → head-end 0 (drop from s) ≡ at n → i ≡ from + n
-          → doctype-end (drop from s) ≡ pick t (at n) (after-subset (drop from s) (later (suc n) (subset-end 0 0 (drop (suc n) (drop from s)))))
-      unfolding doctype-end
-      by-head n e f =
-          ap (after-head (drop from s)) e
-          ∙ ap (λ (x : Bool). pick x (at n) (after-subset (drop from s) (later (suc n) (subset-end 0 0 (drop (suc n) (drop from s))))))
-          (ap (starts (ascii ">")) (drop-drop n from s ∙ ap (λ (k : ℕ). drop k s) (sym f)) ∙ sym c)
+      after : (x : Bool) → t ≡ x → (n : ℕ) × (i ≡ from + n) × (place-from doctype-end s from ≡ placed (later from (pick x (at n) (after-subset (drop from s) (later (suc n) (subset-end 0 0 (drop (i + 1) s)))))))
+      unfolding place-from doctype-end
+      after x d =
+          let (n, e, f) = from-here (head-end 0) s from h a i b in
+          let m : from + suc n ≡ i + 1 = omega arith in
+          (n, f, rw (e, drop-drop n from s, ← f, ← c, d, drop-drop (suc n) from s, m))
 
       pub end-at-sign : t ≡ true → Here i ≡ place-from doctype-end s from
-      unfolding place-from
-      end-at-sign d =
-          let (n, e, f) = from-here (head-end 0) s from h a i b in
-          ap Here f ∙ sym (ap (λ (p : Place). placed (later from p)) (by-head n e f ∙ ap (λ (x : Bool). pick x (at n) (after-subset (drop from s) (later (suc n) (subset-end 0 0 (drop (suc n) (drop from s)))))) d))
+      end-at-sign d = let (n, f, g) = after true d in ap Here f ∙ sym g
 
       -- the subset, from the next byte on, ends as e says
-      module _ (d : t ≡ false) (e : Found) (g : e ≡ placed (later (i + 1) (subset-end 0 0 (drop (i + 1) s)))) where
-        by-subset : (n : ℕ) → head-end 0 (drop from s) ≡ at n → i ≡ from + n → (p : Place) → subset-end 0 0 (drop (i + 1) s) ≡ p → doctype-end (drop from s) ≡ after-subset (drop from s) (later (suc n) p)
-        by-subset n k f p q =
-            let m : from + suc n ≡ i + 1 = omega arith in
-            by-head n k f ∙ ap (λ (x : Bool). pick x (at n) (after-subset (drop from s) (later (suc n) (subset-end 0 0 (drop (suc n) (drop from s)))))) d
-            ∙ ap (λ (w : List ℕ). after-subset (drop from s) (later (suc n) (subset-end 0 0 w))) (drop-drop (suc n) from s ∙ ap (λ (k : ℕ). drop k s) m)
-            ∙ ap (λ (x : Place). after-subset (drop from s) (later (suc n) x)) q
-
+      module _ (d : t ≡ false) (e : Found) (k : e ≡ placed (later (i + 1) (subset-end 0 0 (drop (i + 1) s)))) where
         pub end-open : e ≡ Nowhere → Nowhere ≡ place-from doctype-end s from
-        unfolding place-from
-        end-open z =
-            let (n, k, f) = from-here (head-end 0) s from h a i b in
-            let q : subset-end 0 0 (drop (i + 1) s) ≡ nowhere = later-none (i + 1) (subset-end 0 0 (drop (i + 1) s)) (was-nowhere (later (i + 1) (subset-end 0 0 (drop (i + 1) s))) e g z) in
-            sym (ap (λ (p : Place). placed (later from p)) (by-subset n k f nowhere q))
+        end-open z = let (n, f, g) = after false d in rw (g, from-nowhere (subset-end 0 0) s (i + 1) e (unfold place-from in k) z)
 
         pub end-closed : (j : ℕ) (r : Found) → e ≡ Here j → r ≡ first-place (ascii ">") s j → r ≡ place-from doctype-end s from
-        unfolding place-from
         end-closed j r z y =
-            let (n, k, f) = from-here (head-end 0) s from h a i b in
-            let (m, q, o) = later-some (i + 1) (subset-end 0 0 (drop (i + 1) s)) j (was-at (later (i + 1) (subset-end 0 0 (drop (i + 1) s))) e j g z) in
+            let (n, f, g) = after false d in
+            let (m, q, o) = from-here (subset-end 0 0) s (i + 1) e (unfold place-from in k) j z in
             let l : from + (suc n + m) ≡ j = omega arith in
-            y ∙ word-from ">" s j ∙ ap (λ (c : ℕ). placed (later c (word-at ">" (drop c s)))) (sym l)
-            ∙ ap placed (sym (later-later from (suc n + m) (word-at ">" (drop (from + (suc n + m)) s))) ∙ ap (λ (w : List ℕ). later from (later (suc n + m) (word-at ">" w))) (sym (drop-drop (suc n + m) from s)))
-            ∙ sym (ap (λ (p : Place). placed (later from p)) (by-subset n k f (at m) q))
+            rw (g, q, later-later, drop-drop, l) (y ∙ (unfold place-from in word-from ">" s j))
 
 pub ruleset heads = (head-start, head-pass, head-other, passes)
 

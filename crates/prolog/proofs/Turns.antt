@@ -1,9 +1,11 @@
 -- Laws of the turns: what is passed over, what is found, and where the next turn begins. Assumes nothing.
 use mathlib.Core.Path.{_≡_, refl, sym, ap, _∙_}
-use mathlib.Core.Bool.{Bool, true, false, _&&_, _||_}
+use mathlib.Core.Bool.{Bool, true, false, _||_, or-false, or-assoc}
 use mathlib.Core.List.{List, [], _∷_}
+use mathlib.Core.Logic.{_⊎_, inl, inr}
 use Prim.Native.Nat.{ℕ, zero, suc, _+_, _-_, _^_, _<_, _≤_}
 use Prim.Native.String.{String}
+use native.Mathlib.Nat.{add-zero, add-assoc}
 use native.Mathlib.Omega.{arith}
 use borrow.Author.Needs.{needs}
 use mir.Syntax.{w64}
@@ -15,49 +17,37 @@ use Rattle.spec.specs.Basics.{pick}
 use Rattle.spec.specs.Grammar.Characters.{space}
 use Rattle.spec.specs.Grammar.Languages.{ascii, one-of}
 use Rattle.spec.specs.Reading.Prolog as Rule
-use Rattle.spec.specs.Reading.Prolog.{word-at, doctype-end, is-declaration, declared, docked, next-item}
+use Rattle.spec.specs.Reading.Prolog.{word-at, doctype-end, is-declaration, next-item}
 use Rattle.spec.specs.Reading.Readers.{starts, begins, run}
-use Rattle.spec.specs.Reading.Scan.{at, nowhere, later}
+use Rattle.spec.specs.Reading.Scan.{Place, at, nowhere, later}
 use Rattle.spec.proofs.Agreement.Words.{starts-split}
 use Rattle.spec.proofs.Base.Places.{drop-end, front-at}
-use Rattle.spec.proofs.Base.Tests.{and-left}
-use Rattle.spec.proofs.Division.FrontParts.{nowhere-at, at-inj}
+use Rattle.spec.proofs.Base.Tests.{and-left, decide}
 use Rattle.spec.proofs.Prolog.Misc.{begins-sign}
 use Rattle.spec.proofs.Prolog.Turns.{moved, moved-none, next-space, next-comment, next-cut-comment, next-declaration, next-instruction, next-cut-instruction, next-doctype, next-other}
 use Rattle.search.specs.FirstPlace.{first-place}
 use Rattle.search.specs.declared.places.Found.{Found}
 use Rattle.search.specs.declared.places.Found.the-variants.{Here, Nowhere}
 use Rattle.search.proofs.Finding.{places-found}
-use Rattle.scan.proofs.Answering.{was-at, was-nowhere}
 use Rattle.search.proofs.Words.{word-fits}
 use Rattle.prolog.specs.declared.items.Item.{Item}
 use Rattle.prolog.specs.declared.items.Item.the-variants.{Declaration, Doctype, Other, CutOff, CutDoctype}
 use Rattle.prolog.specs.Answers.{placed-item, item-from, place-from, misc-end, begun}
-use Rattle.prolog.proofs.Ends.{later-none, later-some, from-nowhere, from-here, word-from}
+use Rattle.prolog.proofs.Ends.{from-nowhere, from-here, word-from}
 
 -- one sign of five
 pub target-signs : (b : ℕ) → eqb b 32 || eqb b 9 || eqb b 13 || eqb b 10 || eqb b 63 ≡ one-of " \t\r\n?" b
-target-signs b = go (eqb b 32) (eqb b 9) (eqb b 13) (eqb b 10) (eqb b 63)
-  where
-    go : (i j k l m : Bool) → i || j || k || l || m ≡ i || (j || (k || (l || (m || false))))
-    go true j k l m = refl
-    go false true k l m = refl
-    go false false true l m = refl
-    go false false false true m = refl
-    go false false false false true = refl
-    go false false false false false = refl
+target-signs b = simp (or-false, or-assoc)
 
 -- whether a declaration begins: t whether "<?xml" stands there, x the byte after it, c what that byte is
 module _ (s : List ℕ) (from : ℕ) (t : Bool) (a : t ≡ starts (ascii "<?xml") (drop from s)) where
   pub declared-no : t ≡ false → false ≡ is-declaration (drop from s)
   unfolding is-declaration
-  declared-no f = ap (λ (x : Bool). x && begins (one-of " \t\r\n?") (drop 5 (drop from s))) (sym f ∙ a)
+  declared-no f = rw (sym a ∙ f)
 
   pub declared-by : (x : ℕ) (c : Bool) → t ≡ true → x ≡ getD s (from + 5) 0 → c ≡ one-of " \t\r\n?" x → c ≡ is-declaration (drop from s)
   unfolding is-declaration
-  declared-by x c f e d =
-      d ∙ ap (one-of " \t\r\n?") (e ∙ sym (front-at s (from + 5)) ∙ ap (λ (w : List ℕ). getD w 0 0) (sym (drop-drop 5 from s)))
-      ∙ sym (begins-sign " \t\r\n?" tt refl (drop 5 (drop from s))) ∙ ap (λ (x : Bool). x && begins (one-of " \t\r\n?") (drop 5 (drop from s))) (sym f ∙ a)
+  declared-by x c f e d = rw (sym a ∙ f, begins-sign " \t\r\n?" tt refl, drop-drop, front-at, ← e) d
 
 -- and then its first bytes are in the text
 pub declared-fits : (s : List ℕ) (from : ℕ) (c : Bool) → c ≡ is-declaration (drop from s) → c ≡ true → length s < 2 ^ 64 → Fits w64 (from + 2)
@@ -66,19 +56,20 @@ declared-fits s from c e f h =
     let (v, g) = starts-split (ascii "<?xml") (drop from s) (and-left (starts (ascii "<?xml") (drop from s)) (begins (one-of " \t\r\n?") (drop 5 (drop from s))) (sym e ∙ f)) in
     omega (arith, ap length g, length-drop from s)
 
--- the rule's place of a word from the code's, with what was passed before it
-module _ (k : String) (s : List ℕ) (from m : ℕ) (r : Found) (a : r ≡ first-place (ascii k) s (from + m)) where
-  inner : drop (from + m) s ≡ drop m (drop from s)
-  inner = sym (drop-drop m from s)
+-- the rule's place from the code's, with what was passed before it: of any search, and of a word
+module _ (f : List ℕ → Place) (s : List ℕ) (from m : ℕ) (r : Found) (a : r ≡ place-from f s (from + m)) where
+  past-nowhere : r ≡ Nowhere → f (drop m (drop from s)) ≡ nowhere
+  past-nowhere b = rw drop-drop (from-nowhere f s (from + m) r a b)
 
+  past-here : (j : ℕ) → r ≡ Here j → (n : ℕ) × (f (drop m (drop from s)) ≡ at n) × (j ≡ from + m + n)
+  past-here j b = rw drop-drop (from-here f s (from + m) r a j b)
+
+module _ (k : String) (s : List ℕ) (from m : ℕ) (r : Found) (a : r ≡ first-place (ascii k) s (from + m)) where
   word-none : r ≡ Nowhere → word-at k (drop m (drop from s)) ≡ nowhere
-  word-none b =
-      ap (word-at k) (sym inner) ∙ later-none (from + m) (word-at k (drop (from + m) s)) (was-nowhere (later (from + m) (word-at k (drop (from + m) s))) r (a ∙ word-from k s (from + m)) b)
+  word-none = past-nowhere (word-at k) s from m r (a ∙ word-from k s (from + m))
 
   word-some : (j : ℕ) → r ≡ Here j → (n : ℕ) × (word-at k (drop m (drop from s)) ≡ at n) × (j ≡ from + m + n)
-  word-some j b =
-      let (n, e, f) = later-some (from + m) (word-at k (drop (from + m) s)) j (was-at (later (from + m) (word-at k (drop (from + m) s))) r j (a ∙ word-from k s (from + m)) b) in
-      (n, ap (word-at k) (sym inner) ∙ e, f)
+  word-some = past-here (word-at k) s from m r (a ∙ word-from k s (from + m))
 
 -- misc_end: t whether a comment begins, d whether a declaration, i whether an instruction, r where it is found to end
 module _ (s : List ℕ) (from : ℕ) (t : Bool) (a : t ≡ starts (ascii "<!--") (drop from s)) where
@@ -97,12 +88,12 @@ module _ (s : List ℕ) (from : ℕ) (t : Bool) (a : t ≡ starts (ascii "<!--")
   module _ (b : t ≡ false) (d : Bool) (c : d ≡ is-declaration (drop from s)) where
     pub misc-declaration : d ≡ true → Here from ≡ place-from misc-end s from
     unfolding place-from misc-end
-    misc-declaration f = let m : from ≡ from + 0 = omega arith in ap Here m ∙ (rw (sym a ∙ b, sym c ∙ f))
+    misc-declaration f = rw (sym a ∙ b, sym c ∙ f, add-zero)
 
     module _ (f : d ≡ false) (i : Bool) (g : i ≡ starts (ascii "<?") (drop from s)) where
       pub misc-none : i ≡ false → Here from ≡ place-from misc-end s from
       unfolding place-from misc-end
-      misc-none h = let m : from ≡ from + 0 = omega arith in ap Here m ∙ (rw (sym a ∙ b, sym c ∙ f, sym g ∙ h))
+      misc-none h = rw (sym a ∙ b, sym c ∙ f, sym g ∙ h, add-zero)
 
       module _ (h : i ≡ true) (r : Found) (e : r ≡ first-place (ascii "?>") s (from + 2)) where
         pub misc-instruction-cut : r ≡ Nowhere → Nowhere ≡ place-from misc-end s from
@@ -121,7 +112,7 @@ module _ (s : List ℕ) (from : ℕ) (d : Bool) (c : d ≡ is-declaration (drop 
   module _ (f : d ≡ true) (r : Found) (e : r ≡ first-place (ascii "?>") s (from + 2)) where
     pub begun-declaration-cut : r ≡ Nowhere → CutOff from ≡ item-from begun s from
     unfolding item-from begun
-    begun-declaration-cut k = let m : from ≡ from + 0 = omega arith in ap CutOff m ∙ (rw (sym c ∙ f, word-none "?>" s from 2 r e k))
+    begun-declaration-cut k = rw (sym c ∙ f, word-none "?>" s from 2 r e k, add-zero)
 
     pub begun-declaration : (j : ℕ) → r ≡ Here j → Declaration (from + 2) j ≡ item-from begun s from
     unfolding item-from begun
@@ -133,25 +124,21 @@ module _ (s : List ℕ) (from : ℕ) (d : Bool) (c : d ≡ is-declaration (drop 
   module _ (f : d ≡ false) (t : Bool) (a : t ≡ starts (ascii "<!DOCTYPE") (drop from s)) where
     pub begun-other : t ≡ false → Other from ≡ item-from begun s from
     unfolding item-from begun
-    begun-other b = let m : from ≡ from + 0 = omega arith in ap Other m ∙ (rw (sym c ∙ f, sym a ∙ b))
+    begun-other b = rw (sym c ∙ f, sym a ∙ b, add-zero)
 
     module _ (b : t ≡ true) (r : Found) (e : r ≡ place-from doctype-end s (from + 9)) where
       pub begun-doctype-cut : r ≡ Nowhere → CutDoctype from ≡ item-from begun s from
       unfolding item-from begun
-      begun-doctype-cut k =
-          let m : from ≡ from + 0 = omega arith in
-          let l : doctype-end (drop 9 (drop from s)) ≡ nowhere = ap doctype-end (drop-drop 9 from s) ∙ from-nowhere doctype-end s (from + 9) r e k in
-          ap CutDoctype m ∙ (rw (sym c ∙ f, sym a ∙ b, l))
+      begun-doctype-cut k = rw (sym c ∙ f, sym a ∙ b, past-nowhere doctype-end s from 9 r e k, add-zero)
 
       pub begun-doctype : (j : ℕ) → r ≡ Here j → Doctype (from + 9) j ≡ item-from begun s from
       unfolding item-from begun
       begun-doctype j k =
-          let (n, l, o) = from-here doctype-end s (from + 9) r e j k in
-          let g : doctype-end (drop 9 (drop from s)) ≡ at n = ap doctype-end (drop-drop 9 from s) ∙ l in
+          let (n, l, o) = past-here doctype-end s from 9 r e j k in
           let m : j ≡ from + (9 + n) = omega arith in
-          ap (Doctype (from + 9)) m ∙ (rw (sym c ∙ f, sym a ∙ b, g))
+          ap (Doctype (from + 9)) m ∙ (rw (sym c ∙ f, sym a ∙ b, l))
 
--- The turn's two parts are the rule's turn.
+-- The rule's turn in two parts. Over white space:
 run-again : (w : List ℕ) → run space (drop (run space w) w) ≡ 0
 unfolding run
 run-again [] = refl
@@ -168,59 +155,41 @@ over-space w = go (run space w) refl
     go zero e = sym (moved-none (next-item w))
     go (suc n) e = next-space w (omega arith) ∙ ap (λ (k : ℕ). moved k (next-item (drop k w))) e
 
+-- and where there is none, by where a comment or an instruction ends
+abbrev by-end : List ℕ → Place → Rule.Item
+by-end w nowhere = Rule.cut-off 0
+by-end w (at zero) = begun w
+by-end w (at (suc n)) = moved (suc n) (next-item (drop (suc n) w))
+
 module _ (w : List ℕ) (z : run space w ≡ 0) where
-  at-cut : misc-end w ≡ nowhere → next-item w ≡ Rule.cut-off 0
-  unfolding misc-end
-  at-cut e = go (starts (ascii "<!--") w) refl (is-declaration w) refl (starts (ascii "<?") w) refl e
-    where
-      go : (t : Bool) → starts (ascii "<!--") w ≡ t → (d : Bool) → is-declaration w ≡ d → (i : Bool) → starts (ascii "<?") w ≡ i
-          → pick t (later 7 (word-at "-->" (drop 4 w))) (pick d (at 0) (pick i (later 4 (word-at "?>" (drop 2 w))) (at 0))) ≡ nowhere → next-item w ≡ Rule.cut-off 0
-      go true a d b i c f = next-cut-comment w z a (later-none 7 (word-at "-->" (drop 4 w)) f)
-      go false a true b i c f = absurd (nowhere-at 0 (sym f))
-      go false a false b true c f = next-cut-instruction w z a b c (later-none 4 (word-at "?>" (drop 2 w)) f)
-      go false a false b false c f = absurd (nowhere-at 0 (sym f))
+  past-word : (m : ℕ) (p : Place) → (p ≡ nowhere → next-item w ≡ Rule.cut-off 0) → ((n : ℕ) → p ≡ at n → next-item w ≡ moved (n + suc m) (next-item (drop (n + suc m) w)))
+      → next-item w ≡ by-end w (later (suc m) p)
+  past-word m nowhere cut on = cut refl
+  past-word m (at n) cut on =
+      let l : n + suc m ≡ suc (m + n) = omega arith in
+      let k : suc m + n ≡ suc (m + n) = omega arith in
+      rw k (rw l at (on n refl))
 
-  at-some : (n : ℕ) → misc-end w ≡ at n → 0 < n → next-item w ≡ moved n (next-item (drop n w))
-  unfolding misc-end
-  at-some n e h = go (starts (ascii "<!--") w) refl (is-declaration w) refl (starts (ascii "<?") w) refl e
-    where
-      by : (k m : ℕ) → n ≡ k + m → next-item w ≡ moved (m + k) (next-item (drop (m + k) w)) → next-item w ≡ moved n (next-item (drop n w))
-      by k m f g = let l : m + k ≡ n = omega arith in g ∙ ap (λ (q : ℕ). moved q (next-item (drop q w))) l
-
-      go : (t : Bool) → starts (ascii "<!--") w ≡ t → (d : Bool) → is-declaration w ≡ d → (i : Bool) → starts (ascii "<?") w ≡ i
-          → pick t (later 7 (word-at "-->" (drop 4 w))) (pick d (at 0) (pick i (later 4 (word-at "?>" (drop 2 w))) (at 0))) ≡ at n → next-item w ≡ moved n (next-item (drop n w))
-      go true a d b i c f = let (m, g, l) = later-some 7 (word-at "-->" (drop 4 w)) n f in by 7 m l (next-comment w z a m g)
-      go false a true b i c f = absurd (omega (arith, at-inj 0 n f))
-      go false a false b true c f = let (m, g, l) = later-some 4 (word-at "?>" (drop 2 w)) n f in by 4 m l (next-instruction w z a b c m g)
-      go false a false b false c f = absurd (omega (arith, at-inj 0 n f))
-
-  at-none : misc-end w ≡ at 0 → next-item w ≡ begun w
+  by-misc : next-item w ≡ by-end w (misc-end w)
   unfolding misc-end begun
-  at-none e = go (starts (ascii "<!--") w) refl (is-declaration w) refl (starts (ascii "<?") w) refl (starts (ascii "<!DOCTYPE") w) refl e
+  by-misc = go (decide (starts (ascii "<!--") w)) (decide (is-declaration w)) (decide (starts (ascii "<?") w)) (decide (starts (ascii "<!DOCTYPE") w))
     where
-      go : (t : Bool) → starts (ascii "<!--") w ≡ t → (d : Bool) → is-declaration w ≡ d → (i : Bool) → starts (ascii "<?") w ≡ i → (y : Bool) → starts (ascii "<!DOCTYPE") w ≡ y
-          → pick t (later 7 (word-at "-->" (drop 4 w))) (pick d (at 0) (pick i (later 4 (word-at "?>" (drop 2 w))) (at 0))) ≡ at 0
-          → next-item w ≡ pick d (declared 0 (word-at "?>" (drop 2 w))) (pick y (docked 0 (doctype-end (drop 9 w))) (Rule.other 0))
-      go true a d b i c y g f = let (m, k, l) = later-some 7 (word-at "-->" (drop 4 w)) 0 f in absurd (omega arith)
-      go false a true b i c y g f = next-declaration w z a b
-      go false a false b true c y g f = let (m, k, l) = later-some 4 (word-at "?>" (drop 2 w)) 0 f in absurd (omega arith)
-      go false a false b false c true g f = next-doctype w z a b c g
-      go false a false b false c false g f = next-other w z a b c g
+      go : (starts (ascii "<!--") w ≡ true) ⊎ (starts (ascii "<!--") w ≡ false) → (is-declaration w ≡ true) ⊎ (is-declaration w ≡ false)
+          → (starts (ascii "<?") w ≡ true) ⊎ (starts (ascii "<?") w ≡ false) → (starts (ascii "<!DOCTYPE") w ≡ true) ⊎ (starts (ascii "<!DOCTYPE") w ≡ false) → next-item w ≡ by-end w (misc-end w)
+      go (inl a) d i y = rw a (past-word 6 (word-at "-->" (drop 4 w)) (next-cut-comment w z a) (next-comment w z a))
+      go (inr a) (inl d) i y = rw (a, d, d) (next-declaration w z a d)
+      go (inr a) (inr d) (inl i) y = rw (a, d, i) (past-word 3 (word-at "?>" (drop 2 w)) (next-cut-instruction w z a d i) (next-instruction w z a d i))
+      go (inr a) (inr d) (inr i) (inl y) = rw (a, d, i, d, y) (next-doctype w z a d i y)
+      go (inr a) (inr d) (inr i) (inr y) = rw (a, d, i, d, y) (next-other w z a d i y)
 
 -- The loop of next_item. The invariant: what is next from i on is what is next, W; e is the place after the white space, and p says
 -- where what begins there ends.
 placed-moved : (k n : ℕ) (x : Rule.Item) → placed-item k (moved n x) ≡ placed-item (k + n) x
-placed-moved k n x = go x
-  where
-    add : (i : ℕ) → k + (n + i) ≡ k + n + i
-    add i = omega arith
-
-    go : (x : Rule.Item) → placed-item k (moved n x) ≡ placed-item (k + n) x
-    go (Rule.declaration i j) = (λ t. Declaration (add i t) (add j t))
-    go (Rule.doctype i j) = (λ t. Doctype (add i t) (add j t))
-    go (Rule.other i) = ap Other (add i)
-    go (Rule.cut-off i) = ap CutOff (add i)
-    go (Rule.cut-doctype i) = ap CutDoctype (add i)
+placed-moved k n (Rule.declaration i j) = simp add-assoc
+placed-moved k n (Rule.doctype i j) = simp add-assoc
+placed-moved k n (Rule.other i) = simp add-assoc
+placed-moved k n (Rule.cut-off i) = simp add-assoc
+placed-moved k n (Rule.cut-doctype i) = simp add-assoc
 
 next-nothing : next-item [] ≡ Rule.other 0
 unfolding next-item Rule.item-fuel run starts is-declaration
@@ -228,39 +197,35 @@ next-nothing = refl
 
 module _ (s : List ℕ) (i : ℕ) (W : Item) (inv : placed-item i (next-item (drop i s)) ≡ W) where
   pub next-end : length s ≤ i → Other i ≡ W
-  next-end h = let m : i ≡ i + 0 = omega arith in ap Other m ∙ sym (ap (placed-item i) (ap next-item (drop-end s i h) ∙ next-nothing)) ∙ inv
+  next-end h = rw (drop-end s i h, next-nothing, add-zero) at inv
 
   module _ (e : ℕ) (a : e ≡ i + run space (drop i s)) where
-    there : drop e s ≡ drop (run space (drop i s)) (drop i s)
-    there = ap (λ (k : ℕ). drop k s) a ∙ sym (drop-drop (run space (drop i s)) i s)
-
     no-space : run space (drop e s) ≡ 0
-    no-space = ap (run space) there ∙ run-again (drop i s)
+    no-space = rw (a, ← drop-drop) (run-again (drop i s))
 
-    after-space : placed-item e (next-item (drop e s)) ≡ W
-    after-space =
-        (λ t. placed-item (a t) (next-item (there t))) ∙ sym (placed-moved i (run space (drop i s)) (next-item (drop (run space (drop i s)) (drop i s))))
-        ∙ ap (placed-item i) (sym (over-space (drop i s))) ∙ inv
+    here : placed-item e (by-end (drop e s) (misc-end (drop e s))) ≡ W
+    here =
+        rw (← by-misc (drop e s) no-space)
+        (rw (over-space (drop i s), placed-moved i (run space (drop i s)) (next-item (drop (run space (drop i s)) (drop i s))), drop-drop, ← a) at inv)
 
     module _ (p : Found) (b : p ≡ place-from misc-end s e) where
       pub next-cut : p ≡ Nowhere → CutOff e ≡ W
-      next-cut c = let m : e ≡ e + 0 = omega arith in ap CutOff m ∙ sym (ap (placed-item e) (at-cut (drop e s) no-space (from-nowhere misc-end s e p b c))) ∙ after-space
+      next-cut c = rw (from-nowhere misc-end s e p b c, add-zero) at here
 
       module _ (j : ℕ) (c : p ≡ Here j) where
         pub next-on : (j ≡ e → ⊥) → placed-item j (next-item (drop j s)) ≡ W
         next-on d =
             let (n, f, g) = from-here misc-end s e p b j c in
-            ap (λ (k : ℕ). placed-item k (next-item (drop k s))) g
-            ∙ ap (λ (w : List ℕ). placed-item (e + n) (next-item w)) (sym (drop-drop n e s))
-            ∙ sym (placed-moved e n (next-item (drop n (drop e s))))
-            ∙ ap (placed-item e) (sym (at-some (drop e s) no-space n f (omega arith))) ∙ after-space
+            let l : n ≡ suc (n - 1) = omega arith in
+            let m : e + suc (n - 1) ≡ j = omega arith in
+            rw (f ∙ ap at l, placed-moved e (suc (n - 1)) (next-item (drop (suc (n - 1)) (drop e s))), drop-drop, m) at here
 
         pub next-begun : (r : Item) → j ≡ e → r ≡ item-from begun s e → r ≡ W
         unfolding item-from
         next-begun r d h =
             let (n, f, g) = from-here misc-end s e p b j c in
             let z : n ≡ 0 = omega arith in
-            h ∙ ap (placed-item e) (sym (at-none (drop e s) no-space (f ∙ ap at z))) ∙ after-space
+            h ∙ (rw (f ∙ ap at z) at here)
 
 -- each turn comes further
 pub next-less : (s : List ℕ) (i e : ℕ) (p : Found) (j : ℕ) → e ≡ i + run space (drop i s) → p ≡ place-from misc-end s e → p ≡ Here j → (j ≡ e → ⊥) → i < length s → length s - j < length s - i
