@@ -17,6 +17,8 @@ use Rattle.error.specs.Read.{placed, read}
 use Rattle.error.specs.declared.Answer.{Answer}
 use Rattle.error.specs.declared.Answer.the-variants.{At, No}
 use Rattle.error.proofs.Laws.{was-ok, was-err}
+use Rattle.dtd.specs.Kinds.{body-of}
+use Rattle.dtd.specs.declared.declarations.Kind.{Kind}
 
 -- r is what take_decl_body gave: the body's end
 module _ (s : List ℕ) (at : ℕ) (r : Answer) (a : r ≡ read (take-decl-body 0) s at) (end : ℕ) (e : r ≡ At end) where
@@ -77,4 +79,11 @@ module _ (D : Dialect) (B : Reader) (pe : Bool) (s : List ℕ) (at : ℕ) (r : A
             let (x, (i, j)) = was-ok B (take (end - at) (drop at s)) 0 m q b g in
             end-place ∙ sym (after-body false (rw (n, sym h ∙ f)) ∙ (rw i))
 
+-- the reader of a body by the kind of its declaration
+pub body-kind : (D : Dialect) (kind k : Kind) (s : List ℕ) (r : Answer) → kind ≡ k → r ≡ read (body-of D k) s 0 → r ≡ read (body-of D kind) s 0
+body-kind D kind k s r e a = rw (e, a)
+
+-- what searches the end of a declaration, and its body's kind
 pub ruleset finishing = (finish-no, finish-used, finish-unread, finish-refused, finish-read, finish-fits, body-from, body-to, needs)
+
+pub ruleset bodied = (body-kind, needs)

@@ -1,4 +1,3 @@
-pub mod Bodies
 pub mod Finishing
 pub mod Looping
 pub mod Whole

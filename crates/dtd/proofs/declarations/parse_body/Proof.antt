@@ -1,6 +1,6 @@
 -- `dtd::declarations::parse_body` meets its contract. Assumes nothing.
 use Rattle.dtd.specs.Kinds.{body-of}
-use Rattle.dtd.proofs.Bodies.{bodied}
+use Rattle.dtd.proofs.Finishing.{bodied}
 use Rattle.dtd.proofs.declarations.parse_body.Statement.{statement}
 use Rattle.dtd.proofs.declarations.parse_body.Tie as tie
 
