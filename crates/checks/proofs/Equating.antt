@@ -1,5 +1,5 @@
 -- The value of a pseudo attribute: '=' and a literal, and a test of the literal's text. Assumes nothing.
-use mathlib.Core.Path.{_≡_, refl, sym, ap, subst, _∙_}
+use mathlib.Core.Path.{_≡_, refl, sym, ap, _∙_}
 use mathlib.Core.Bool.{Bool, true, false}
 use mathlib.Core.List.{List}
 use Prim.Native.Nat.{ℕ, _+_, _-_, _^_, _<_, _≤_}
@@ -25,15 +25,6 @@ use Rattle.checks.specs.Pieces.{between, after-eq, eq-quoted}
 use Rattle.checks.specs.declared.declaration.Ends.{Ends}
 use Rattle.checks.specs.declared.declaration.Quoted.{Quoted}
 use Rattle.checks.specs.declared.declaration.Quoted.the-variants.{Value, Refused}
-
-value≢refused : {v : Ends} {n : ℕ} → Value v ≡ Refused n → ⊥
-value≢refused e = let z : _≡_ {A = ℕ} 0 1 = cc in omega arith
-
-refused-inj : {m n : ℕ} → Refused m ≡ Refused n → m ≡ n
-refused-inj e = cc
-
-value-inj : {v u : Ends} → Value v ≡ Value u → v ≡ u
-value-inj e = cc
 
 -- parse_eq_quoted: i is where '=' is looked for, and r what eat_str answered there
 module _ (s : List ℕ) (at i : ℕ) (r : Answer) (h : i ≡ at + run space (drop at s)) (a : r ≡ eaten (ascii "=") (number unexpected) s i) where
@@ -101,28 +92,28 @@ unfolding parse-eq-quoted
 value-none test s at n q a b = go (equated s at)
   where
     go : Equated s at → No n ≡ read (parse-eq-quoted test) s at
-    go (is v e x) = absurd (value≢refused (sym e ∙ sym a ∙ b))
-    go (none m e f) = ap No (sym (refused-inj (sym e ∙ sym a ∙ b))) ∙ f (valued test)
+    go (is v e x) = let z : _≡_ {A = ℕ} 0 1 = cc in absurd (omega arith)
+    go (none m e f) = let k : n ≡ m = cc in rw k (f (valued test))
 
 module _ (s : List ℕ) (at : ℕ) (q : Quoted) (v : Ends) (a : q ≡ eq-quoted s at) (b : q ≡ Value v) where
   value : Between s at v
   value = go (equated s at)
     where
       go : Equated s at → Between s at v
-      go (is u e x) = subst (Between s at) (value-inj (sym e ∙ sym a ∙ b)) x
-      go (none n e f) = absurd (value≢refused (sym (sym e ∙ sym a ∙ b)))
+      go (is u e x) = let k : u ≡ v = cc in rw k at x
+      go (none n e f) = let z : _≡_ {A = ℕ} 0 1 = cc in absurd (omega arith)
 
   in-order : value .opening + 1 ≤ value .rest - 1
-  in-order = text-start (value .rest) (At (value .rest)) refl s (value .opening) (value .literal)
+  in-order = text-start (value .rest) _ refl s (value .opening) (value .literal)
 
   pub value-start : v .start ≤ v .end
   value-start = omega (arith, value .begins, value .ends, in-order)
 
   pub value-end : v .end ≤ length s
-  value-end = omega (arith, value .ends, text-end (value .rest) (At (value .rest)) refl s (value .opening) (value .literal))
+  value-end = omega (arith, value .ends, text-end (value .rest) _ refl s (value .opening) (value .literal))
 
   pub value-fits : length s < 2 ^ 64 → Fits w64 (v .end + 1)
-  value-fits h = omega (arith, value .ends, in-order, text-inside (value .rest) (At (value .rest)) refl s (value .opening) (value .literal))
+  value-fits h = omega (arith, value .ends, in-order, text-inside (value .rest) _ refl s (value .opening) (value .literal))
 
   -- as the test t of its text says
   module _ (test : List ℕ → Bool) (t : Bool) (e : t ≡ test (take (v .end - v .start) (drop (v .start) s))) where
@@ -131,13 +122,13 @@ module _ (s : List ℕ) (at : ℕ) (q : Quoted) (v : Ends) (a : q ≡ eq-quoted 
     value-taken y =
         let z : v .end + 1 ≡ value .rest = omega (arith, value .ends, in-order) in
         ap At z
-        ∙ text-taken (value .rest) (At (value .rest)) refl s (value .opening) (value .literal) (valued test) 0 (rw (← value .ends, ← value .begins, ← e, y)) refl
+        ∙ text-taken (value .rest) _ refl s (value .opening) (value .literal) (valued test) 0 (rw (← value .ends, ← value .begins, ← e, y)) refl
         ∙ value .onward (parse-quoted (valued test))
 
     pub value-bad : t ≡ false → No (number bad-value) ≡ read (parse-eq-quoted test) s at
     unfolding parse-eq-quoted valued choose refuse
     value-bad y =
-        text-refused (value .rest) (At (value .rest)) refl s (value .opening) (value .literal) (valued test) (number bad-value) (rw (← value .ends, ← value .begins, ← e, y)) (λ z. omega arith)
+        text-refused (value .rest) _ refl s (value .opening) (value .literal) (valued test) (number bad-value) (rw (← value .ends, ← value .begins, ← e, y)) (λ z. omega arith)
         ∙ value .onward (parse-quoted (valued test))
 
 -- what parse_eq_quoted searches, and what tests the value
