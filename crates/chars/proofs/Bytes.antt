@@ -18,16 +18,13 @@ use Rattle.error.proofs.Laws.{chain}
 use Rattle.chars.specs.Bytes.{suspect, special}
 
 -- `among` ends with a test that always fails
-one-of-three : (x y z : Bool) → x || y || z ≡ x || (y || (z || false))
-one-of-three x y z = rw (or-false, or-assoc)
-
 pub char-is : (c : ℕ) → eqb c 0x9 || eqb c 0xA || eqb c 0xD || leb 0x20 c && leb c 0xD7FF || leb 0xE000 c && leb c 0xFFFD || leb 0x10000 c && leb c 0x10FFFF ≡ xml-char c
 unfolding xml-char
-char-is c = rw (one-of-three (eqb c 0x9) (eqb c 0xA) (eqb c 0xD))
+char-is c = simp (or-false, or-assoc)
 
 pub suspect-is : (b : ℕ) → ltb b 0x20 && not (eqb b 0x9 || eqb b 0xA || eqb b 0xD) || eqb b 0xEF ≡ suspect b
 unfolding suspect
-suspect-is b = rw (one-of-three (eqb b 0x9) (eqb b 0xA) (eqb b 0xD))
+suspect-is b = simp (or-false, or-assoc)
 
 pub special-is : (mark b : ℕ) (t : Bool) → t ≡ suspect b → t || eqb b 0x26 || eqb b mark ≡ special mark b
 unfolding special

@@ -62,7 +62,7 @@ refs-from s = refl
 pub calm-text : (s : List ℕ) (i : ℕ) (found : Bool) → length s ≤ i → (found ≡ false → i + away suspect (drop i s) ≡ 0 + away suspect (drop 0 s)) → found ≡ false → number-of (check-chars s) ≡ 0
 calm-text s i found h inv f =
     let w = walk-skip legal-byte suspect s 0 i (read check-chars s 0) some-legal (record { onward = omega arith; ends = inv f }) plain-suspect (chars-from s) in
-    sym (answered check-chars s (At i) (walk-end legal-byte s i (read check-chars s 0) w h))
+    sym (answered check-chars s (At i) 0 (walk-end legal-byte s i (read check-chars s 0) w h) refl)
 
 -- what the checks' loops search, and what the pass searches
 pub ruleset walks = (some-legal, some-ref-or-byte, plain-chars, plain-refs, chars-from, refs-from, steps)

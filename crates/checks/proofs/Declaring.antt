@@ -7,9 +7,9 @@ use borrow.Author.Needs.{needs}
 use lib.ListN.{length, drop}
 use lib.Seq.{drop-drop}
 use Rattle.spec.specs.Grammar.Characters.{space}
-use Rattle.spec.specs.Reading.Checks.{parse-eq-quoted, check-declaration}
+use Rattle.spec.specs.Reading.Checks.{parse-eq-quoted}
 use Rattle.spec.specs.Reading.Dtd.{skip-s, require-s}
-use Rattle.spec.specs.Reading.Readers.{number-of, nothing, starts, run}
+use Rattle.spec.specs.Reading.Readers.{nothing, starts, run}
 use Rattle.spec.specs.Reading.Refusals.{number, no-space, unexpected}
 use Rattle.spec.proofs.Checks.XmlDecl.{declaration-agrees}
 use Rattle.error.specs.Read.{read}
@@ -17,8 +17,6 @@ use Rattle.error.specs.declared.Answer.{Answer}
 use Rattle.error.specs.declared.Answer.the-variants.{At, No}
 use Rattle.error.proofs.Laws.{seq-no, seq-at, choose-yes, choose-no, took-nothing}
 use Rattle.source.proofs.Admitting.{calling}
-use Rattle.error.specs.Numbers.{answer-number}
-use Rattle.error.proofs.Laws.{answered}
 use Rattle.search.proofs.Words.{word-then}
 use Rattle.cursor.proofs.Eating.{eat-fits}
 use Rattle.cursor.proofs.Spaces.{skip-takes, required-none, required-some}
@@ -45,10 +43,7 @@ module _ (name : List ℕ) (test : List ℕ → Bool) (s : List ℕ) (at i : ℕ
       choose-yes _ _ nothing s at b q named f
       (seq-at require-s _ s at i (At i) q (required-some no-space skip-s s at _ i (skip-takes (drop at s)) h z) refl (word-then name s i b e unexpected (parse-eq-quoted test) q f a))
 
-pub declaration-answered : (s : List ℕ) (r : Answer) (m : ℕ) → r ≡ read check-declaration s 0 → m ≡ answer-number r → m ≡ number-of (check-declaration s)
-declaration-answered s r m a e = e ∙ answered check-declaration s r a
-
 -- what a pseudo attribute searches, and the two calls on the whole
 pub ruleset optional = (pseudo-none, pseudo-tight, pseudo-there, eat-fits, needs)
 
-pub ruleset declaring = (declaration-answered, declaration-agrees, calling)
+pub ruleset declaring = (declaration-agrees, calling)

@@ -2,7 +2,7 @@
 use mathlib.Core.Path.{_≡_, refl, sym, ap, _∙_}
 use mathlib.Core.Bool.{Bool, true, false, _&&_, _||_, or-false, or-assoc, and-false}
 use mathlib.Core.List.{List, [], _∷_}
-use Prim.Native.Nat.{ℕ, _+_, _-_, _<_, _≤_}
+use Prim.Native.Nat.{ℕ, _-_, _<_, _≤_}
 use native.Mathlib.Omega.{arith}
 use borrow.Author.Needs.{needs}
 use lib.Dec.{eqb}
@@ -12,28 +12,15 @@ use Rattle.spec.specs.Grammar.Languages.{ascii}
 use Rattle.spec.specs.Grammar.References.{digit}
 use Rattle.spec.specs.Grammar.XmlDecl.{latin-letter, enc-char}
 use Rattle.spec.specs.Reading.Checks.{all-of, is-version-num, is-enc-name, is-yes-or-no}
-use Rattle.spec.specs.Reading.Readers.{starts, run}
-use Rattle.spec.proofs.Base.Tests.{eqb-yes, eqb-no, leb-yes, leb-no}
-use Rattle.search.proofs.Runs.{run-end}
-use Rattle.cursor.proofs.Spaces.{class-stop, class-go}
+use Rattle.spec.specs.Reading.Readers.{starts}
+use Rattle.spec.proofs.Base.Tests.{leb-yes, leb-no}
+use Rattle.cursor.proofs.Spaces.{class-go, all-not, all-passed}
 use Rattle.checks.specs.Values.{test-of}
 use Rattle.checks.specs.declared.values.Kind.{Kind}
 
 -- `among` ends with a test that always fails
 pub enc-char-is : (b : ℕ) (l d : Bool) → l ≡ latin-letter b → d ≡ digit b → l || d || eqb b 46 || eqb b 95 || eqb b 45 ≡ enc-char b
 enc-char-is b l d e f = rw (e, f) (simp (or-false, or-assoc))
-
--- bytes of a class, of which i is the next place
-module _ (p : ℕ → Bool) (t : List ℕ) (i : ℕ) (inv : i + run p (drop i t) ≡ 0 + run p (drop 0 t)) where
-  pub all-not : (r : Bool) → i < length t → r ≡ p (getD t i 0) → r ≡ false → false ≡ all-of p t
-  unfolding all-of
-  all-not r h e n =
-      let z : i ≡ 0 + run p (drop 0 t) = class-stop p t 0 i inv h r e n in
-      sym (eqb-no (run p t) (length t) (λ (f : run p t ≡ length t). omega arith))
-
-  pub all-passed : length t ≤ i → i ≤ length t → true ≡ all-of p t
-  unfolding all-of
-  all-passed h g = let z : i ≡ 0 + run p (drop 0 t) = run-end p t 0 i inv h in sym (eqb-yes (run p t) (length t) (omega arith))
 
 -- the part of a text from n on, as the code cuts it
 rest-is : (n : ℕ) (v : List ℕ) → take (length v - n) (drop n v) ≡ drop n v

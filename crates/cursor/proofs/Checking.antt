@@ -3,19 +3,17 @@ use mathlib.Core.Path.{_≡_, sym, _∙_}
 use mathlib.Core.Bool.{Bool, true, false, _&&_, _||_, or-false, or-assoc}
 use mathlib.Core.List.{List}
 use Prim.Native.Nat.{ℕ, _+_, _<_, _≤_}
-use native.Mathlib.Omega.{arith}
 use borrow.Author.Needs.{needs}
 use lib.Dec.{eqb, leb}
 use lib.ListN.{length, getD, drop}
 use Rattle.spec.specs.Grammar.Languages.{ascii}
 use Rattle.spec.specs.Grammar.Literals.{pubid-char}
+use Rattle.spec.specs.Reading.Checks.{all-of}
 use Rattle.spec.specs.Reading.Refusals.{number, bad-pubid, less-than}
 use Rattle.spec.specs.Reading.Readers.{number-of, refuse, choose, run, contains}
 use Rattle.spec.specs.Reading.Wellformed.{check-char-refs}
 use Rattle.spec.specs.Reading.Dtd.{check-pubid, check-att-value}
-use Rattle.spec.proofs.Base.Tests.{eqb-yes, eqb-no}
-use Rattle.search.proofs.Runs.{run-end}
-use Rattle.cursor.proofs.Spaces.{class-stop, class-go}
+use Rattle.cursor.proofs.Spaces.{class-go, all-not, all-passed}
 
 -- the tests in the order of the production
 pub pubid-is : (b : ℕ)
@@ -28,16 +26,12 @@ pubid-is b = simp (or-false, or-assoc)
 -- the bytes of a public identifier, of which i is the next place
 module _ (t : List ℕ) (i : ℕ) (inv : i + run pubid-char (drop i t) ≡ 0 + run pubid-char (drop 0 t)) where
   pub pubid-bad : (r : Bool) → i < length t → r ≡ pubid-char (getD t i 0) → r ≡ false → number bad-pubid ≡ number-of (check-pubid t)
-  unfolding check-pubid
-  pubid-bad r h e n =
-      let z : i ≡ 0 + run pubid-char (drop 0 t) = class-stop pubid-char t 0 i inv h r e n in
-      rw (eqb-no (run pubid-char t) (length t) (λ (f : run pubid-char t ≡ length t). omega arith))
+  unfolding check-pubid all-of
+  pubid-bad r h e n = rw (sym (all-not pubid-char t i inv r h e n))
 
   pub pubid-good : length t ≤ i → i ≤ length t → 0 ≡ number-of (check-pubid t)
-  unfolding check-pubid
-  pubid-good h g =
-      let z : i ≡ 0 + run pubid-char (drop 0 t) = run-end pubid-char t 0 i inv h in
-      rw (eqb-yes (run pubid-char t) (length t) (omega arith))
+  unfolding check-pubid all-of
+  pubid-good h g = rw (sym (all-passed pubid-char t i inv h g))
 
 -- '<' in the text t, as b says
 module _ (t : List ℕ) (b : Bool) (e : b ≡ contains (ascii "<") t) where

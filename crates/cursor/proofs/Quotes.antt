@@ -17,11 +17,10 @@ use Rattle.spec.specs.Reading.Readers.{Result, ok, err, Reader, number-of, on-o
 use Rattle.spec.specs.Reading.Dtd.{parse-quoted}
 use Rattle.spec.proofs.Base.Tests.{decide, eqb-true, or-cases, or-false-left, or-false-right}
 use Rattle.spec.proofs.Base.Places.{drop-at, drop-end}
-use Rattle.spec.proofs.Base.Results.{number-pos}
 use Rattle.error.specs.Read.{read, placed}
 use Rattle.error.specs.declared.Answer.{Answer}
 use Rattle.error.specs.declared.Answer.the-variants.{At, No}
-use Rattle.error.proofs.Laws.{At≢No, At-inj}
+use Rattle.error.proofs.Laws.{At≢No, At-inj, number-ok, number-err}
 use Rattle.search.specs.FirstPlace.{first-place}
 use Rattle.search.specs.declared.places.Found.{Found}
 use Rattle.search.specs.declared.places.Found.the-variants.{Here, Nowhere}
@@ -149,18 +148,13 @@ module _ (e : ℕ) (r : Answer) (b : r ≡ At e) (s : List ℕ) (at : ℕ) (a : 
 
   module _ (check : List ℕ → Result) (m : ℕ) (n : m ≡ number-of (check (take (e - 1 - (at + 1)) (drop (at + 1) s)))) where
     pub text-taken : m ≡ 0 → At e ≡ read (parse-quoted check) s at
-    text-taken z = sym (literal-read check s at e literal ∙ go (check (take (e - 1 - (at + 1)) (drop (at + 1) s))) (sym n ∙ z))
-      where
-        go : (x : Result) → number-of x ≡ 0 → placed at (on-ok x (λ _. ok (e - at))) ≡ At e
-        go (ok j) y = ap At (let k : at + (e - at) ≡ e = omega (arith, literal .ends) in k)
-        go (err j) y = absurd (omega (arith, number-pos j))
+    text-taken z =
+        let (j, f) = number-ok (check (take (e - 1 - (at + 1)) (drop (at + 1) s))) (sym n ∙ z) in
+        let k : e ≡ at + (e - at) = omega (arith, literal .ends) in
+        ap At k ∙ (rw (literal-read check s at e literal, f))
 
     pub text-refused : (m ≡ 0 → ⊥) → No m ≡ read (parse-quoted check) s at
-    text-refused z = sym (literal-read check s at e literal ∙ go (check (take (e - 1 - (at + 1)) (drop (at + 1) s))) n)
-      where
-        go : (x : Result) → m ≡ number-of x → placed at (on-ok x (λ _. ok (e - at))) ≡ No m
-        go (ok j) y = absurd (z y)
-        go (err j) y = ap No (sym y)
+    text-refused z = let (j, f) = number-err (check (take (e - 1 - (at + 1)) (drop (at + 1) s))) (λ y. z (n ∙ y)) in rw (literal-read check s at e literal, n, f)
 
 -- what is no literal has no text to check
 pub text-none : (check : List ℕ → Result) (s : List ℕ) (at k : ℕ) (r : Answer) → r ≡ read (parse-quoted nothing) s at → r ≡ No k → r ≡ read (parse-quoted check) s at

@@ -2,12 +2,13 @@
 use mathlib.Core.Path.{_≡_, refl, sym, _∙_}
 use mathlib.Core.Bool.{Bool, true, false, _||_, or-false, or-assoc}
 use mathlib.Core.List.{List}
-use Prim.Native.Nat.{ℕ, _+_, _<_}
+use Prim.Native.Nat.{ℕ, _+_, _<_, _≤_}
 use native.Mathlib.Omega.{arith}
 use borrow.Author.Needs.{needs}
 use lib.Dec.{eqb}
 use lib.ListN.{length, getD, drop}
 use Rattle.spec.specs.Grammar.Characters.{space}
+use Rattle.spec.specs.Reading.Checks.{all-of}
 use Rattle.spec.specs.Reading.Refusals.{Refusal, number}
 use Rattle.spec.specs.Reading.Readers.{ok, Reader, run, required}
 use Rattle.spec.specs.Reading.Dtd.{skip-s}
@@ -23,6 +24,18 @@ module _ (p : ℕ → Bool) (s : List ℕ) (at i : ℕ) (inv : i + run p (drop i
 
   pub class-go : t ≡ true → i + 1 + run p (drop (i + 1) s) ≡ at + run p (drop at s)
   class-go y = run-go p s at i inv h (sym e ∙ y)
+
+-- whether all of a text is of the class, of which i is the next place
+module _ (p : ℕ → Bool) (t : List ℕ) (i : ℕ) (inv : i + run p (drop i t) ≡ 0 + run p (drop 0 t)) where
+  pub all-not : (r : Bool) → i < length t → r ≡ p (getD t i 0) → r ≡ false → false ≡ all-of p t
+  unfolding all-of
+  all-not r h e n =
+      let z : i ≡ 0 + run p (drop 0 t) = class-stop p t 0 i inv h r e n in
+      sym (eqb-no (run p t) (length t) (λ (f : run p t ≡ length t). omega arith))
+
+  pub all-passed : length t ≤ i → i ≤ length t → true ≡ all-of p t
+  unfolding all-of
+  all-passed h g = let z : i ≡ 0 + run p (drop 0 t) = run-end p t 0 i inv h in sym (eqb-yes (run p t) (length t) (omega arith))
 
 -- `among` ends with a test that always fails
 pub space-is : (b : ℕ) → eqb b 0x20 || eqb b 0x9 || eqb b 0xD || eqb b 0xA ≡ space b

@@ -19,10 +19,6 @@ use Rattle.spec.proofs.Dtd.Texts.{doctype-agrees}
 use Rattle.error.specs.Read.{read}
 use Rattle.error.specs.declared.Answer.{Answer}
 use Rattle.source.proofs.Admitting.{call-refused, call-answered}
-use Rattle.classes.specs.Classes.{dialect}
-use Rattle.classes.specs.declared.Names.the-variants.{AppendixB}
-use Rattle.error.specs.Numbers.{answer-number}
-use Rattle.error.proofs.Laws.{answered}
 use Rattle.cursor.proofs.Reading.{reading}
 use Rattle.dtd.specs.Kinds.{id-part}
 
@@ -40,10 +36,6 @@ module _ (s : List ℕ) (at : ℕ) (a b : Bool) (e : a ≡ starts (ascii "SYSTEM
 whole-agrees : Agrees (check-doctype appendix-B) (doctypedecl appendix-B)
 whole-agrees = doctype-agrees appendix-B appendix-B-ascii
 
-pub whole-number : (s : List ℕ) (r : Answer) (m : ℕ) → r ≡ read (check-doctype (dialect AppendixB)) s 0 → m ≡ answer-number r → m ≡ number-of (check-doctype appendix-B s)
-unfolding dialect
-whole-number s r m a e = e ∙ answered (check-doctype appendix-B) s r a
-
 -- the public call after admit: n is the number in front, and m the rule's own
 module _ (w : List ℕ) (n : ℕ) (e : n ≡ checked nothing w) where
   pub doctype-refused : (n ≡ 0 → ⊥) → ChecksDoctype appendix-B w n
@@ -55,4 +47,4 @@ module _ (w : List ℕ) (n : ℕ) (e : n ≡ checked nothing w) where
 -- what the parts search, and the public call
 pub ruleset parts-read = (id-yes, id-no, reading)
 
-pub ruleset whole = (whole-number, doctype-refused, doctype-answered, needs)
+pub ruleset whole = (doctype-refused, doctype-answered, needs)

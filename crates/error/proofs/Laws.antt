@@ -7,13 +7,14 @@ use Prim.Native.Nat.{ℕ, _+_, _-_, _<_, _≤_}
 use native.Mathlib.Nat.{add-assoc, add-zero}
 use native.Mathlib.Omega.{arith}
 use borrow.Author.Needs.{needs}
-use lib.ListN.{length, getD, drop}
+use lib.ListN.{length, getD, drop, length-drop}
 use lib.Seq.{drop-drop}
 use Rattle.spec.specs.Basics.{pick}
 use Rattle.spec.specs.Reading.Refusals.{Refusal, number}
 use Rattle.spec.specs.Reading.Readers.{Result, ok, err, Reader, number-of, past, _>>_, nothing, refuse, starts, choose, word-of, throughout}
 use Rattle.spec.proofs.Base.Places.{drop-at, drop-end}
-use Rattle.spec.proofs.Base.Loops.{Somes, through-end, through-turn, through-refused}
+use Rattle.spec.proofs.Base.Loops.{Somes, through-end, through-some, through-none}
+use Rattle.spec.proofs.Base.Results.{number-pos}
 use Rattle.error.specs.Read.{placed, read, eaten}
 use Rattle.error.specs.Numbers.{answer-number}
 use Rattle.error.specs.declared.Answer.{Answer}
@@ -125,19 +126,21 @@ module _ (R : Reader) (s : List ℕ) (i : ℕ) (W : Answer) (inv : read (through
   unfolding read
   walk-end h = (rw (drop-end s i h, through-end R, add-zero)) ∙ inv
 
-  pub walk-no : (n : ℕ) (r : Answer) → i < length s → r ≡ read R s i → r ≡ No n → r ≡ W
-  unfolding read
-  walk-no n r h a e =
-      let (m, (f, g)) = was-err R s i n r a e in
-      let d = drop-at s i h in
-      g ∙ ap (placed i) (sym (ap (throughout R) d ∙ through-refused R (getD s i 0) (drop (i + 1) s) m (ap R (sym d) ∙ f))) ∙ inv
+  -- a turn, and then the loop again
+  module _ (some : Somes R) (h : i < length s) where
+    again : read (R >> throughout R) s i ≡ W
+    unfolding read _>>_
+    again = ap (placed i) (sym (go (R (drop i s)) refl (omega (arith, length-drop i s)))) ∙ inv
+      where
+        go : (x : Result) → R (drop i s) ≡ x → 0 < length (drop i s) → throughout R (drop i s) ≡ (R >> throughout R) (drop i s)
+        go (ok k) f l = through-some R some (drop i s) k l f ∙ (rw f)
+        go (err n) f l = through-none R (drop i s) n l f ∙ (rw f)
 
-  pub walk-go : (j : ℕ) (r : Answer) → Somes R → i < length s → r ≡ read R s i → r ≡ At j → read (throughout R) s j ≡ W
-  walk-go j r some h a e =
-      let (k, (f, g)) = was-ok R s i j r a e in
-      let d = drop-at s i h in
-      let t : throughout R (drop i s) ≡ past k (throughout R (drop k (drop i s))) = ap (throughout R) d ∙ through-turn R some (getD s i 0) (drop (i + 1) s) k (ap R (sym d) ∙ f) ∙ (rw (← d)) in
-      ap (read (throughout R) s) g ∙ read-on (throughout R) s i k ∙ ap (placed i) (sym t) ∙ (unfold read in inv)
+    pub walk-no : (n : ℕ) (r : Answer) → r ≡ read R s i → r ≡ No n → r ≡ W
+    walk-no n r a e = seq-no R (throughout R) s i n r a e ∙ again
+
+    pub walk-go : (j : ℕ) (r : Answer) → r ≡ read R s i → r ≡ At j → read (throughout R) s j ≡ W
+    walk-go j r a e = seq-at R (throughout R) s i j r _ a e refl ∙ again
 
 -- a turn ends further on
 pub walk-less : (R : Reader) (s : List ℕ) (i j : ℕ) (r : Answer) → Somes R → i < length s → r ≡ read R s i → r ≡ At j → length s - j < length s - i
@@ -147,13 +150,22 @@ walk-less R s i j r some h a e =
     omega arith
 
 -- the number that a check comes to, by its answer from the text's front on
-pub answered : (C : Reader) (s : List ℕ) (r : Answer) → r ≡ read C s 0 → answer-number r ≡ number-of (C s)
+pub answered : (C : Reader) (s : List ℕ) (r : Answer) (m : ℕ) → r ≡ read C s 0 → m ≡ answer-number r → m ≡ number-of (C s)
 unfolding read
-answered C s r a = ap answer-number a ∙ go (C s)
+answered C s r m a e = e ∙ ap answer-number a ∙ go (C s)
   where
     go : (x : Result) → answer-number (placed 0 x) ≡ number-of x
     go (ok k) = refl
     go (err n) = refl
+
+-- what the number says of the check's answer
+pub number-ok : (x : Result) → number-of x ≡ 0 → (k : ℕ) × (x ≡ ok k)
+number-ok (ok k) e = (k, refl)
+number-ok (err n) e = absurd (omega (arith, number-pos n))
+
+pub number-err : (x : Result) → (number-of x ≡ 0 → ⊥) → (n : Refusal) × (x ≡ err n)
+number-err (ok k) e = absurd (e refl)
+number-err (err n) e = (n, refl)
 
 -- what a chain of readers searches
 pub ruleset chain = (seq-no, seq-at, choose-yes, choose-no, refused, took-nothing, ate, ate-then, ate-only, ate-not, needs)

@@ -1,11 +1,12 @@
 -- What the steps search. Each law is one way through a step, and its premises are the tests and the calls on that way. Assumes nothing.
 use mathlib.Core.Path.{_≡_, refl, sym, ap, _∙_}
-use mathlib.Core.Bool.{Bool, true, false, _||_, not, true≢false}
+use mathlib.Core.Bool.{Bool, true, false, _||_, not}
 use mathlib.Core.List.{List}
 use Prim.Native.Nat.{ℕ, zero, suc, _+_, _<_, _≤_}
 use borrow.Author.Needs.{needs}
 use borrow.Author.Tests.{le-ltb, lt-ltb}
 use lib.Dec.{eqb}
+use Rattle.spec.specs.Basics.{pick}
 use Rattle.spec.specs.Grammar.AppendixB.{appendix-B}
 use Rattle.spec.specs.Reading.Checks.{check-declaration}
 use Rattle.spec.specs.Reading.Dtd.{check-doctype}
@@ -67,10 +68,7 @@ given g k h w m e f = record { answer = answer-is (recorded k) m ∙ ap (λ (o :
 -- n is what admit gave
 module _ (g : Gate) (w : List ℕ) (n : ℕ) (a : n ≡ checked nothing w) where
   pub decl-refused : (h : Gate) → (n ≡ 0 → ⊥) → recorded h ≡ numbered g n .left → Declares g w h n
-  decl-refused h z = given g g h w n e
-    where
-      e : numbered g n ≡ G.decl (recorded g) w
-      e = unfold numbered G.decl in rw (sym a) (stops n (recorded g) _ z)
+  decl-refused h z = given g g h w n (unfold numbered G.decl in rw (sym a) (stops n (recorded g) _ z))
 
   pub decl-late : (h : Gate) → n ≡ 0 → g .started ≡ true → recorded h ≡ numbered g 21 .left → Declares g w h 21
   decl-late h z t = given g g h w 21 (unfold numbered G.decl recorded in rw (sym a, z, t))
@@ -81,31 +79,27 @@ module _ (g : Gate) (w : List ℕ) (n : ℕ) (a : n ≡ checked nothing w) where
 -- `doctype`: a number as the reply
 pub reply-is : (g h : Gate) (n : ℕ) → recorded h ≡ numbered g n .left → docked (record { gate = h; reply = Number n }) ≡ numbered g n
 unfolding docked numbered
-reply-is g h zero f = ap (λ (k : Record). record { left = k; answer = says 0 }) f
-reply-is g h (suc n) f = ap (λ (k : Record). record { left = k; answer = says (suc n) }) f
+reply-is g h zero f = rw f
+reply-is g h (suc n) f = rw f
 
 -- s is what the scan gave, and b whether it is "not closed"
 module _ (g : Gate) (w : List ℕ) (s : Scanned) (b : Bool) (a : s ≡ admitted-answer w) (e : b ≡ unclosed s) where
-  scan-is : b ≡ unclosed (scanned (scan w))
-  scan-is = e ∙ ap unclosed (unfold admitted-answer in a)
+  -- so it is answered "open", or the whole check decides
+  decided : (x : Bool) → b ≡ x → scan-decides g w ≡ pick x (record { left = leave-open (recorded g); answer = says-open }) (numbered g (number-of (check-doctype appendix-B w)))
+  unfolding scan-decides unclosed numbered admitted-answer
+  decided x t = go (scan w) (sym t ∙ e ∙ ap unclosed a)
+    where
+      go : (y : Scan) → x ≡ unclosed (scanned y) → by-scan appendix-B y (recorded g) w ≡ pick x (record { left = leave-open (recorded g); answer = says-open }) (answered (recorded g) (number-of (check-doctype appendix-B w)))
+      go Rule.not-opened f = rw f
+      go Rule.not-closed f = rw f
+      go (Rule.closed i) f = rw f
 
   pub scan-open : b ≡ true → docked (record { gate = record { started = g .started; seen = g .seen; «open» = true; refused = g .refused }; reply = Open }) ≡ scan-decides g w
-  unfolding docked recorded scan-decides unclosed
-  scan-open t = go (scan w) (sym t ∙ scan-is)
-    where
-      go : (x : Scan) → true ≡ unclosed (scanned x) → record { left = leave-open (recorded g); answer = says-open } ≡ by-scan appendix-B x (recorded g) w
-      go Rule.not-opened f = absurd (true≢false f)
-      go Rule.not-closed f = refl
-      go (Rule.closed i) f = absurd (true≢false f)
+  unfolding docked recorded
+  scan-open t = sym (decided true t)
 
   pub scan-other : (m : ℕ) (d : Docked) → b ≡ false → m ≡ number-of (check-doctype appendix-B w) → docked d ≡ numbered g m → docked d ≡ scan-decides g w
-  unfolding scan-decides numbered unclosed
-  scan-other m d t f h = h ∙ ap (answered (recorded g)) f ∙ go (scan w) (sym t ∙ scan-is)
-    where
-      go : (x : Scan) → false ≡ unclosed (scanned x) → answered (recorded g) (number-of (check-doctype appendix-B w)) ≡ by-scan appendix-B x (recorded g) w
-      go Rule.not-opened f = refl
-      go Rule.not-closed f = absurd (true≢false (sym f))
-      go (Rule.closed i) f = refl
+  scan-other m d t f h = h ∙ ap (numbered g) f ∙ sym (decided false t)
 
 -- what the step gives is what it promises
 docks : (g : Gate) (phase : ℕ) (w : List ℕ) (d : Docked) (o : Outcome) → docked d ≡ o → o ≡ G.doctype appendix-B (recorded g) phase w → Docks g phase w (d .gate) (d .reply)
@@ -114,18 +108,12 @@ docks g phase w d o e f = record { answer = ap (λ (o : Outcome). o .answer) (e 
 
 module _ (g : Gate) (phase : ℕ) (w : List ℕ) (n : ℕ) (a : n ≡ checked nothing w) (d : Docked) where
   pub dock-refused : (n ≡ 0 → ⊥) → docked d ≡ numbered g n → Docks g phase w (d .gate) (d .reply)
-  dock-refused z f = docks g phase w d (numbered g n) f e
-    where
-      e : numbered g n ≡ G.doctype appendix-B (recorded g) phase w
-      e = unfold numbered G.doctype in rw (sym a) (stops n (recorded g) _ z)
+  dock-refused z f = docks g phase w d (numbered g n) f (unfold numbered G.doctype in rw (sym a) (stops n (recorded g) _ z))
 
   -- m is what the character check gave
   module _ (m : ℕ) (z : n ≡ 0) (b : m ≡ number-of (check-chars w)) where
     pub dock-char : (m ≡ 0 → ⊥) → docked d ≡ numbered (begun g) m → Docks g phase w (d .gate) (d .reply)
-    dock-char y f = docks g phase w d (numbered (begun g) m) f e
-      where
-        e : numbered (begun g) m ≡ G.doctype appendix-B (recorded g) phase w
-        e = unfold numbered G.doctype recorded in rw (sym a, z, sym b) (stops m (recorded (begun g)) _ y)
+    dock-char y f = docks g phase w d (numbered (begun g) m) f (unfold numbered G.doctype recorded in rw (sym a, z, sym b) (stops m (recorded (begun g)) _ y))
 
     pub dock-late : m ≡ 0 → (g .seen || not (eqb phase 0)) ≡ true → docked d ≡ numbered (begun g) 21 → Docks g phase w (d .gate) (d .reply)
     dock-late y t f = docks g phase w d (numbered (begun g) 21) f (unfold numbered G.doctype recorded in rw (sym a, z, sym b, y, t))

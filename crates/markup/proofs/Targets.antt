@@ -15,31 +15,23 @@ use Rattle.spec.specs.Reading.Refusals.{number, has-colon, reserved-target}
 use Rattle.spec.specs.Reading.Readers.{Result, ok, err, number-of, past, _>>_, run, contains}
 use Rattle.spec.specs.Reading.Wellformed.{check-name}
 use Rattle.spec.specs.Reading.Dtd.{reserved, check-target, check-pi}
-use Rattle.spec.proofs.Base.Results.{number-pos}
+use Rattle.error.proofs.Laws.{number-ok, number-err}
 use Rattle.search.proofs.Runs.{run-end, run-stop, run-go}
 
 -- a target: its name first, then its colon, then "xml"
 module _ (D : Dialect) (w : List ℕ) (n : ℕ) (a : n ≡ number-of (check-name D w)) where
   pub target-unnamed : (n ≡ 0 → ⊥) → n ≡ number-of (check-target D w)
   unfolding check-target _>>_
-  target-unnamed z = go (check-name D w) refl
-    where
-      go : (x : Result) → check-name D w ≡ x → n ≡ number-of (check-target D w)
-      go (ok k) e = absurd (z (a ∙ ap number-of e))
-      go (err r) e = a ∙ (rw e)
+  target-unnamed z = let (r, e) = number-err (check-name D w) (λ y. z (a ∙ y)) in a ∙ (rw e)
 
   module _ (z : n ≡ 0) (c : Bool) (h : c ≡ contains (ascii ":") w) where
     target-named : number-of (pick c (err has-colon) (pick (reserved w) (err reserved-target) (ok 0))) ≡ number-of (check-target D w)
     unfolding check-target _>>_
-    target-named = go (check-name D w) refl
+    target-named = let (k, e) = number-ok (check-name D w) (sym a ∙ z) in rw (e, h) (same k (pick (contains (ascii ":") w) (err has-colon) (pick (reserved w) (err reserved-target) (ok 0))))
       where
         same : (k : ℕ) (x : Result) → number-of x ≡ number-of (past k x)
         same k (ok j) = refl
         same k (err r) = refl
-
-        go : (x : Result) → check-name D w ≡ x → number-of (pick c (err has-colon) (pick (reserved w) (err reserved-target) (ok 0))) ≡ number-of (check-target D w)
-        go (ok k) e = rw (e, h) (same k (pick (contains (ascii ":") w) (err has-colon) (pick (reserved w) (err reserved-target) (ok 0))))
-        go (err r) e = absurd (let y : number r ≡ 0 = sym (a ∙ ap number-of e) ∙ z in omega (arith, number-pos r))
 
     pub target-colon : c ≡ true → number has-colon ≡ number-of (check-target D w)
     target-colon g = rw g at target-named

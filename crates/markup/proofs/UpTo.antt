@@ -1,24 +1,24 @@
 -- Everything up to the first place of a word, for any word and any check of what stands before it. Assumes nothing.
 use mathlib.Core.Path.{_≡_, refl, sym, ap, _∙_}
 use mathlib.Core.Bool.{Bool, true, false, _||_, true≢false}
-use mathlib.Core.List.{List, [], _∷_, _++_}
-use Prim.Native.Nat.{ℕ, zero, suc, _+_, _-_}
+use mathlib.Core.List.{List, [], _∷_, _++_, append-assoc}
+use Prim.Native.Nat.{ℕ, suc, _+_, _-_}
 use Prim.Native.String.{String}
 use native.Mathlib.Nat.{add-assoc}
 use native.Mathlib.Omega.{arith}
 use borrow.Author.Tests.{not-true, not-false}
-use lib.Dec.{eqb}
-use lib.ListN.{length, take, drop}
+use lib.ListN.{length, take, drop, take-append-drop}
 use lib.Seq.{drop-drop}
 use Rattle.spec.specs.Basics.{pick}
 use Rattle.spec.specs.Grammar.Languages.{ascii}
 use Rattle.spec.specs.Reading.Refusals.{Refusal, number}
 use Rattle.spec.specs.Reading.Readers.{Result, ok, err, number-of, on-ok, nothing, refuse, starts, choose, word-of, contains, before, up-to}
 use Rattle.spec.specs.Reading.Dtd.{check-comment}
-use Rattle.spec.proofs.Base.Tests.{T→true, no→false, and-left, and-right}
-use Rattle.spec.proofs.Base.Results.{number-pos}
+use Rattle.spec.proofs.Base.Tests.{T→true, no→false}
+use Rattle.spec.proofs.Agreement.Words.{starts-self, starts-split}
 use Rattle.error.specs.Read.{placed, read}
 use Rattle.error.specs.declared.Answer.the-variants.{At, No}
+use Rattle.error.proofs.Laws.{number-ok, number-err}
 use Rattle.search.proofs.Words.{word-yes, word-no, by-words}
 use Rattle.search.specs.FirstPlace.{first-place}
 use Rattle.search.specs.declared.places.Found.{Found}
@@ -32,7 +32,7 @@ module _ (k : String) (n : Refusal) (check : List ℕ → Result) (s : List ℕ)
   up-to-nowhere m b e = rw (was-nowhere (ascii k) s at r a b, e)
 
   module _ (j m : ℕ) (b : r ≡ Here j) (c : m ≡ number-of (check (take (j - at) (drop at s)))) where
-    up-to-here : (x : Result) → check (take (j - at) (drop at s)) ≡ x → placed at (on-ok x (λ _. ok (before (ascii k) (drop at s) + length (ascii k)))) ≡ read (up-to k n check) s at
+    up-to-here : (x : Result) → check (take (j - at) (drop at s)) ≡ x → read (up-to k n check) s at ≡ placed at (on-ok x (λ _. ok (before (ascii k) (drop at s) + length (ascii k))))
     unfolding read up-to
     up-to-here x f =
         let (g, h) = was-here (ascii k) s at r a j b in
@@ -40,34 +40,24 @@ module _ (k : String) (n : Refusal) (check : List ℕ → Result) (s : List ℕ)
         rw (g, ← z, f)
 
     pub up-to-taken : (l : ℕ) → m ≡ 0 → l ≡ length (ascii k) → At (j + l) ≡ read (up-to k n check) s at
-    up-to-taken l e d = go (check (take (j - at) (drop at s))) refl
-      where
-        go : (x : Result) → check (take (j - at) (drop at s)) ≡ x → At (j + l) ≡ read (up-to k n check) s at
-        go (ok i) f =
-            let (g, h) = was-here (ascii k) s at r a j b in
-            (rw (d, h, add-assoc)) ∙ up-to-here (ok i) f
-        go (err y) f = let z : number y ≡ 0 = sym (c ∙ ap number-of f) ∙ e in absurd (omega (arith, number-pos y))
+    up-to-taken l e d =
+        let (i, f) = number-ok (check (take (j - at) (drop at s))) (sym c ∙ e) in
+        let (g, h) = was-here (ascii k) s at r a j b in
+        rw (up-to-here (ok i) f, d, h, add-assoc)
 
     pub up-to-refused : (m ≡ 0 → ⊥) → No m ≡ read (up-to k n check) s at
-    up-to-refused e = go (check (take (j - at) (drop at s))) refl
-      where
-        go : (x : Result) → check (take (j - at) (drop at s)) ≡ x → No m ≡ read (up-to k n check) s at
-        go (ok i) f = absurd (e (c ∙ ap number-of f))
-        go (err y) f = ap No (c ∙ ap number-of f) ∙ up-to-here (err y) f
+    up-to-refused e =
+        let (y, f) = number-err (check (take (j - at) (drop at s))) (λ z. e (c ∙ z)) in
+        ap No (c ∙ ap number-of f) ∙ sym (up-to-here (err y) f)
 
 -- a word that goes on stands only where its first part does, and not in what stands before the first place of that part
 starts-part : (p x w : List ℕ) → starts (p ++ x) w ≡ true → starts p w ≡ true
-unfolding starts
-starts-part [] x w e = refl
-starts-part (c ∷ p) x [] e = e
-starts-part (c ∷ p) x (b ∷ w) e = rw (and-left (eqb b c) (starts (p ++ x) w) e, starts-part p x w (and-right (eqb b c) (starts (p ++ x) w) e))
+starts-part p x w e = let (v, f) = starts-split (p ++ x) w e in rw (f, append-assoc) (starts-self p (x ++ v))
 
 starts-within : (p : List ℕ) (n : ℕ) (w : List ℕ) → starts p (take n w) ≡ true → starts p w ≡ true
-unfolding starts
-starts-within [] n w e = refl
-starts-within (c ∷ p) zero w e = absurd (true≢false (sym e))
-starts-within (c ∷ p) (suc n) [] e = e
-starts-within (c ∷ p) (suc n) (b ∷ w) e = rw (and-left (eqb b c) (starts p (take n w)) e, starts-within p n w (and-right (eqb b c) (starts p (take n w)) e))
+starts-within p n w e =
+    let (v, f) = starts-split p (take n w) e in
+    ap (starts p) (sym (take-append-drop n w) ∙ ap (λ (l : List ℕ). l ++ drop n w) f ∙ append-assoc p v (drop n w)) ∙ starts-self p (v ++ drop n w)
 
 none-before : (p w : List ℕ) → contains p (take (before p w) w) ≡ false
 unfolding contains before

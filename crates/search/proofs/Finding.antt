@@ -1,7 +1,7 @@
 -- Laws of the first place of a word. Assumes nothing.
 use mathlib.Core.Path.{_≡_, refl, sym, ap, _∙_}
 use mathlib.Core.Bool.{Bool, true, false, _&&_, _||_, not, true≢false}
-use mathlib.Core.List.{List, [], _∷_, _++_}
+use mathlib.Core.List.{List, [], _∷_}
 use Prim.Native.Nat.{ℕ, suc, _+_, _-_, _^_, _<_, _≤_}
 use native.Mathlib.Nat.{add-zero}
 use native.Mathlib.Omega.{arith}
@@ -31,10 +31,8 @@ contains-some kw (b ∷ w) e = omega arith
 pub word-within : (kw w : List ℕ) → contains kw w ≡ true → before kw w + length kw ≤ length w
 word-within kw w c =
     let (v, f) = found kw w c in
-    let k : ℕ = before kw w in
-    let l : length (take k w) ≡ k = length-take-le k w (before-le kw w) in
-    let m : length w ≡ length (take k w) + (length kw + length v) = ap length f ∙ length-append (take k w) (kw ++ v) ∙ ap (λ (x : ℕ). length (take k w) + x) (length-append kw v) in
-    omega arith
+    let l : length (take (before kw w) w) ≡ before kw w = length-take-le (before kw w) w (before-le kw w) in
+    omega (arith, simp length-append at (ap length f))
 
 -- the first place in w, where i is the place of w
 abbrev first-in : List ℕ → List ℕ → ℕ → Found

@@ -1,20 +1,19 @@
 -- Fixed words: at_keyword's loop, and readers that go by a word. Assumes nothing.
 use mathlib.Core.Path.{_≡_, refl, sym, _∙_}
-use mathlib.Core.Bool.{Bool, true, false, true≢false}
+use mathlib.Core.Bool.{Bool, true, false}
 use mathlib.Core.List.{List, [], _∷_}
-use Prim.Native.Nat.{ℕ, _+_, _^_, _<_, _≤_, suc-le-suc}
+use Prim.Native.Nat.{ℕ, _+_, _^_, _<_, _≤_}
 use Prim.Native.String.{String}
 use native.Mathlib.Omega.{arith}
 use borrow.Author.Needs.{needs}
 use borrow.Author.Tests.{eq-eqb, ne-eqb}
 use mir.Syntax.{w64}
 use mir.Val.{Fits}
-use lib.Dec.{eqb}
-use lib.ListN.{length, getD, drop, length-drop}
+use lib.ListN.{length, getD, drop, length-append, length-drop}
 use Rattle.spec.specs.Grammar.Languages.{ascii}
 use Rattle.spec.specs.Reading.Refusals.{Refusal, number}
 use Rattle.spec.specs.Reading.Readers.{Reader, _>>_, starts, on, word-of}
-use Rattle.spec.proofs.Base.Tests.{and-right}
+use Rattle.spec.proofs.Agreement.Words.{starts-split}
 use Rattle.spec.proofs.Base.Places.{drop-at, drop-end}
 use Rattle.error.specs.Read.{read}
 use Rattle.error.specs.declared.Answer.{Answer}
@@ -41,10 +40,7 @@ module _ (kw s : List ℕ) (at i j : ℕ) (inv : starts (drop j kw) (drop i s) �
 
 -- a word lies within the text
 starts-fit : (kw w : List ℕ) → starts kw w ≡ true → length kw ≤ length w
-unfolding starts
-starts-fit [] w e = omega arith
-starts-fit (k ∷ kw) [] e = absurd (true≢false (sym e))
-starts-fit (k ∷ kw) (b ∷ w) e = suc-le-suc (starts-fit kw w (and-right (eqb b k) _ e))
+starts-fit kw w e = let (v, f) = starts-split kw w e in rw (f, length-append) (omega arith)
 
 pub word-fits : (kw s : List ℕ) (at n : ℕ) (b : Bool) → b ≡ starts kw (drop at s) → b ≡ true → n ≡ length kw → 0 < n → length s < 2 ^ 64 → Fits w64 (at + n)
 word-fits kw s at n b e f l h g = let v = simp length-drop at (starts-fit kw (drop at s) (sym e ∙ f)) in omega arith

@@ -1,6 +1,6 @@
 -- `chars::chars::chars_number` meets its contract.
 -- Assumes nothing.
-use mathlib.Core.Path.{sym, _∙_}
+use mathlib.Core.Path.{sym}
 use borrow.Author.Needs.{needs}
 use Rattle.spec.specs.Reading.Wellformed.{check-chars}
 use Rattle.error.proofs.Laws.{answered}
@@ -14,5 +14,5 @@ chars-number-spec =
     (λ c κs. search needs)  -- any-suspect-requires
     (λ c κs. search needs)  -- walk-chars-requires
     (λ c κs. search needs)  -- number-requires
-    (λ c. c .number .ensures ∙ answered check-chars _ _ (c .before .walk-chars .ensures))  -- returns
+    (λ c. answered check-chars _ _ _ (c .before .walk-chars .ensures) (c .number .ensures))  -- returns
     (λ c. sym (c .before .any-suspect .ensures (c .if1 .left))))  -- returns-2

@@ -1,6 +1,5 @@
 -- `chars::references::char_refs_number` meets its contract.
 -- Assumes nothing.
-use mathlib.Core.Path.{_∙_}
 use borrow.Author.Needs.{needs}
 use Rattle.spec.specs.Reading.Wellformed.{check-char-refs}
 use Rattle.error.proofs.Laws.{answered}
@@ -13,4 +12,4 @@ char-refs-number-spec =
     (tie.spec
     (λ c κs. search needs)  -- walk-char-refs-requires
     (λ c κs. search needs)  -- number-requires
-    (λ c. c .number .ensures ∙ answered check-char-refs _ _ (c .before .walk-char-refs .ensures)))  -- returns
+    (λ c. answered check-char-refs _ _ _ (c .before .walk-char-refs .ensures) (c .number .ensures)))  -- returns

@@ -1,6 +1,5 @@
 -- `wellformed::text::attr_value_number` meets its contract.
 -- Assumes nothing.
-use mathlib.Core.Path.{_∙_}
 use borrow.Author.Needs.{needs}
 use Rattle.spec.specs.Reading.Wellformed.{check-attr-value}
 use Rattle.error.proofs.Laws.{answered}
@@ -13,4 +12,4 @@ attr-value-number-spec =
     (tie.spec
     (λ c κs. search needs)  -- walk-attr-value-requires
     (λ c κs. search needs)  -- number-requires
-    (λ c. c .number .ensures ∙ answered check-attr-value _ _ (c .before .walk-attr-value .ensures)))  -- returns
+    (λ c. answered check-attr-value _ _ _ (c .before .walk-attr-value .ensures) (c .number .ensures)))  -- returns

@@ -1,6 +1,5 @@
 -- `wellformed::text::text_number` meets its contract.
 -- Assumes nothing.
-use mathlib.Core.Path.{_∙_}
 use borrow.Author.Needs.{needs}
 use Rattle.spec.specs.Reading.Wellformed.{check-text}
 use Rattle.error.proofs.Laws.{answered}
@@ -13,4 +12,4 @@ text-number-spec =
     (tie.spec
     (λ c κs. search needs)  -- walk-text-requires
     (λ c κs. search needs)  -- number-requires
-    (λ c. c .number .ensures ∙ answered check-text _ _ (c .before .walk-text .ensures)))  -- returns
+    (λ c. answered check-text _ _ _ (c .before .walk-text .ensures) (c .number .ensures)))  -- returns
