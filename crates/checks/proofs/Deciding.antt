@@ -16,6 +16,7 @@ use Rattle.source.proofs.Admitting.{calling}
 use Rattle.classes.specs.Classes.{dialect}
 use Rattle.classes.specs.declared.Names.the-variants.{AppendixB}
 
+-- the test is the name check and no colon; it holds of what the grammar derives
 pub ncname-is : (w : List ℕ) (m : ℕ) (c : Bool) → m ≡ number-of (check-name (dialect AppendixB) w) → c ≡ contains (58 ∷ []) w → (eqb m 0 && not c) ≡ is-ncname appendix-B w
 unfolding dialect is-ncname
 ncname-is w m c e f = rw (e, f)

@@ -3,12 +3,11 @@ use mathlib.Core.Path.{_≡_, sym, ap, _∙_}
 use mathlib.Core.Bool.{Bool, true, false}
 use mathlib.Core.List.{List}
 use Prim.Native.Nat.{ℕ, _+_, _^_, _<_}
-use native.Mathlib.Nat.{min-eq-left}
 use native.Mathlib.Omega.{arith}
 use borrow.Author.Needs.{needs}
 use mir.Syntax.{w64}
 use mir.Val.{Fits}
-use lib.ListN.{length, take, drop, length-drop, length-take}
+use lib.ListN.{length, take, drop, length-drop}
 use Rattle.spec.specs.Grammar.Languages.{ascii}
 use Rattle.spec.specs.Grammar.Names.{Dialect}
 use Rattle.spec.specs.Reading.Refusals.{number, bad-name, has-colon}
@@ -19,12 +18,13 @@ use Rattle.spec.proofs.Wellformed.LongestName.{Named, a-name, no-name, named, n
 use Rattle.error.specs.Read.{read}
 use Rattle.error.specs.declared.Answer.the-variants.{At, No}
 use Rattle.names.specs.NamePart.{NamePart}
+use Rattle.names.proofs.PlaceLaws.{part-length}
 use Rattle.cursor.proofs.Spaces.{required-none, required-some}
 
 -- p is the part at a place
 module _ (D : Dialect) (s p : List ℕ) (at : ℕ) (n : NamePart D (drop at s) p) where
-  part-length : length p ≡ name-length D (drop at s)
-  part-length = ap length (n .part) ∙ length-take (name-length D (drop at s)) (drop at s) ∙ min-eq-left (name-within D (drop at s))
+  size : length p ≡ name-length D (drop at s)
+  size = part-length D s at p (n .part)
 
   -- it is empty where the reader refuses
   module _ (z : length p ≡ 0) where
@@ -32,7 +32,7 @@ module _ (D : Dialect) (s p : List ℕ) (at : ℕ) (n : NamePart D (drop at s) p
     no-part = go (named D (drop at s))
       where
         go : Named D (drop at s) → name D (drop at s) ≡ err bad-name
-        go (a-name k h e t) = let l : length p ≡ k = part-length ∙ (unfold name-length in (rw e)) in absurd (omega arith)
+        go (a-name k h e t) = let l : length p ≡ k = size ∙ (unfold name-length in (rw e)) in absurd (omega arith)
         go (no-name e f) = e
 
     pub name-no : (m : ℕ) → m ≡ number bad-name → No m ≡ read (name D) s at
@@ -49,20 +49,20 @@ module _ (D : Dialect) (s p : List ℕ) (at : ℕ) (n : NamePart D (drop at s) p
     a-part = go (named D (drop at s))
       where
         go : Named D (drop at s) → name D (drop at s) ≡ ok (length p)
-        go (a-name k h e t) = e ∙ ap ok (sym (part-length ∙ (unfold name-length in (rw e))))
-        go (no-name e f) = absurd (z (part-length ∙ (unfold name-length in (rw e))))
+        go (a-name k h e t) = e ∙ ap ok (sym (size ∙ (unfold name-length in (rw e))))
+        go (no-name e f) = absurd (z (size ∙ (unfold name-length in (rw e))))
 
     pub name-yes : At (at + length p) ≡ read (name D) s at
     unfolding read
     name-yes = rw a-part
 
     pub name-fits : length s < 2 ^ 64 → Fits w64 (at + length p)
-    name-fits h = let v = simp length-drop at (name-within D (drop at s)) in let l = part-length in omega arith
+    name-fits h = let v = simp length-drop at (name-within D (drop at s)) in let l = size in omega arith
 
     -- a colon in it, as b says
     module _ (b : Bool) (e : b ≡ contains (ascii ":") p) where
       colon-in : b ≡ contains (ascii ":") (take (length p) (drop at s))
-      colon-in = e ∙ ap (contains (ascii ":")) (n .part ∙ (rw part-length))
+      colon-in = e ∙ ap (contains (ascii ":")) (n .part ∙ (rw size))
 
       pub ncname-colon : (m : ℕ) → b ≡ true → m ≡ number has-colon → No m ≡ read (ncname D) s at
       unfolding read ncname

@@ -22,21 +22,18 @@ use Rattle.dtd.specs.declared.declarations.Kind.{Kind}
 
 -- r is what take_decl_body gave: the body's end
 module _ (s : List ℕ) (at : ℕ) (r : Answer) (a : r ≡ read (take-decl-body 0) s at) (end : ℕ) (e : r ≡ At end) where
-  -- what the code's answer says: the body has k bytes
-  body-ok : take-decl-body 0 (drop at s) ≡ ok (end - at)
-  body-ok = let (k, (f, g)) = was-ok (take-decl-body 0) s at end r a e in f ∙ ap ok (let z : k ≡ end - at = omega arith in z)
-
-  end-is : end ≡ at + (end - at)
-  end-is = let (k, (f, g)) = was-ok (take-decl-body 0) s at end r a e in omega arith
+  -- what the code's answer says: the body goes to its end
+  body : (take-decl-body 0 (drop at s) ≡ ok (end - at)) × (end ≡ at + (end - at))
+  body =
+      let (k, (f, g)) = was-ok (take-decl-body 0) s at end r a e in
+      let z : k ≡ end - at = omega arith in
+      (f ∙ ap ok z, omega arith)
 
   body-in : end < length s
-  body-in =
-      let h = simp length-drop at (body-within 0 (end - at) (drop at s) body-ok) in
-      let g = end-is in
-      omega arith
+  body-in = omega (arith, body .1, length-drop at s, body-within 0 (end - at) (drop at s) (body .0))
 
   pub body-from : at ≤ end
-  body-from = omega (arith, end-is)
+  body-from = omega (arith, body .1)
 
   pub body-to : end ≤ length s
   body-to = omega (arith, body-in)
@@ -54,10 +51,10 @@ module _ (D : Dialect) (B : Reader) (pe : Bool) (s : List ℕ) (at : ℕ) (r : A
     after-body : (t : Bool) → (pe || has-pe-reference D (take (end - at) (drop at s))) ≡ t
         → read (finish-decl D pe B) s at ≡ placed at (on-ok (pick t nothing B (take (end - at) (drop at s))) (λ _. ok (end - at + 1)))
     unfolding read finish-decl
-    after-body t f = rw (body-ok s at r a end e, f)
+    after-body t f = rw (body s at r a end e .0, f)
 
     end-place : At (end + 1) ≡ placed at (ok (end - at + 1))
-    end-place = ap At (let g = end-is s at r a end e in let z : end + 1 ≡ at + (end - at + 1) = omega arith in z)
+    end-place = ap At (let g = body s at r a end e .1 in let z : end + 1 ≡ at + (end - at + 1) = omega arith in z)
 
     pub finish-used : pe ≡ true → At (end + 1) ≡ read (finish-decl D pe B) s at
     unfolding nothing

@@ -20,12 +20,14 @@ use Rattle.error.specs.Numbers.{answer-number}
 use Rattle.error.specs.declared.Answer.{Answer}
 use Rattle.error.specs.declared.Answer.the-variants.{At, No}
 
+-- an answer is a place or a refusal
 pub At≢No : {i n : ℕ} → At i ≡ No n → ⊥
 At≢No e = let z : _≡_ {A = ℕ} 0 1 = cc in omega arith
 
 pub At-inj : {i k : ℕ} → At i ≡ At k → i ≡ k
 At-inj e = cc
 
+-- bytes taken before, as places
 pub placed-past : (at k : ℕ) (x : Result) → placed at (past k x) ≡ placed (at + k) x
 placed-past at k (ok n) = ap At (sym (add-assoc at k n))
 placed-past at k (err n) = refl

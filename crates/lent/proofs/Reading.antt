@@ -12,6 +12,7 @@ use Rattle.classes.specs.declared.Names.the-variants.{AppendixB}
 use Rattle.lent.specs.Places.{peeked}
 use Rattle.lent.specs.declared.places.Next.the-variants.{Byte, End}
 
+-- a byte stands there, or the text ends
 pub peeked-byte : (s : List ℕ) (i : ℕ) → i < length s → Byte (getD s i 0) ≡ peeked (drop i s)
 unfolding peeked
 peeked-byte s i h = rw (drop-at s i h)
@@ -20,6 +21,7 @@ pub peeked-end : (s : List ℕ) (i : ℕ) → length s ≤ i → End ≡ peeked 
 unfolding peeked
 peeked-end s i h = rw (drop-end s i h)
 
+-- the dialect is the one of appendix B
 pub in-appendix-B : (w p : List ℕ) → NamePart (dialect AppendixB) w p → NamePart appendix-B w p
 unfolding dialect
 in-appendix-B w p n = n

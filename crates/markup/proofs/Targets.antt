@@ -56,28 +56,25 @@ pub reserved-three : (w : List ℕ) → length w ≡ 3
     → ((eqb (getD w 0 0) 0x58 || eqb (getD w 0 0) 0x78) && (eqb (getD w 1 0) 0x4D || eqb (getD w 1 0) 0x6D)) && (eqb (getD w 2 0) 0x4C || eqb (getD w 2 0) 0x6C) ≡ reserved w
 unfolding reserved
 reserved-three (x ∷ m ∷ l ∷ []) n = simp or-false
-reserved-three [] n = absurd (let z : 0 ≡ 3 = n in omega arith)
-reserved-three (x ∷ []) n = absurd (let z : 1 ≡ 3 = n in omega arith)
-reserved-three (x ∷ m ∷ []) n = absurd (let z : 2 ≡ 3 = n in omega arith)
-reserved-three (x ∷ m ∷ l ∷ y ∷ ys) n = absurd (let z : suc (suc (suc (suc (length ys)))) ≡ 3 = n in omega arith)
+reserved-three [] n = absurd (omega arith)
+reserved-three (x ∷ []) n = absurd (omega arith)
+reserved-three (x ∷ m ∷ []) n = absurd (omega arith)
+reserved-three (x ∷ m ∷ l ∷ y ∷ ys) n = absurd (omega arith)
 
 -- The loop of target_end. The invariant: the bytes before the first white space end where those from i on do.
-module _ (w : List ℕ) (i : ℕ) (inv : i + run (none-of " \t\r\n") (drop i w) ≡ run (none-of " \t\r\n") w) where
-  from-front : i + run (none-of " \t\r\n") (drop i w) ≡ 0 + run (none-of " \t\r\n") (drop 0 w)
-  from-front = inv ∙ sym (zero-add _)
-
+module _ (w : List ℕ) (i : ℕ) (inv : i + run (none-of " \t\r\n") (drop i w) ≡ 0 + run (none-of " \t\r\n") (drop 0 w)) where
   pub target-whole : length w ≤ i → i ≡ run (none-of " \t\r\n") w
-  target-whole h = run-end _ w 0 i from-front h ∙ zero-add _
+  target-whole h = run-end _ w 0 i inv h ∙ zero-add _
 
   module _ (h : i < length w) where
     blank : (t : Bool) → eqb (getD w i 0) 0x20 || eqb (getD w i 0) 0x9 || eqb (getD w i 0) 0xD || eqb (getD w i 0) 0xA ≡ t → none-of " \t\r\n" (getD w i 0) ≡ not t
     blank t e = simp or-false (ap not (simp or-assoc at e))
 
     pub target-stop : eqb (getD w i 0) 0x20 || eqb (getD w i 0) 0x9 || eqb (getD w i 0) 0xD || eqb (getD w i 0) 0xA ≡ true → i ≡ run (none-of " \t\r\n") w
-    target-stop e = run-stop _ w 0 i from-front h (blank true e) ∙ zero-add _
+    target-stop e = run-stop _ w 0 i inv h (blank true e) ∙ zero-add _
 
-    pub target-go : eqb (getD w i 0) 0x20 || eqb (getD w i 0) 0x9 || eqb (getD w i 0) 0xD || eqb (getD w i 0) 0xA ≡ false → i + 1 + run (none-of " \t\r\n") (drop (i + 1) w) ≡ run (none-of " \t\r\n") w
-    target-go e = run-go _ w 0 i from-front h (blank false e) ∙ zero-add _
+    pub target-go : eqb (getD w i 0) 0x20 || eqb (getD w i 0) 0x9 || eqb (getD w i 0) 0xD || eqb (getD w i 0) 0xA ≡ false → i + 1 + run (none-of " \t\r\n") (drop (i + 1) w) ≡ 0 + run (none-of " \t\r\n") (drop 0 w)
+    target-go e = run-go _ w 0 i inv h (blank false e)
 
 -- a target lies within the text
 pub run-within : (p : ℕ → Bool) (w : List ℕ) (e : ℕ) → e ≡ run p w → e ≤ length w

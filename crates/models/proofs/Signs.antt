@@ -24,6 +24,7 @@ use Rattle.error.proofs.Laws.{seq-no, seq-at, took-nothing}
 use Rattle.cursor.proofs.Reading.{skip-then, skip-only}
 use Rattle.search.proofs.Words.{on-yes, on-no, word-yes, word-then, word-no, word-not, word-fits}
 
+-- the sign c stands at a place or not, by the byte there
 pub sign-in : (c : ℕ) (s : List ℕ) (at : ℕ) → at < length s → eqb (getD s at 0) c ≡ starts (c ∷ []) (drop at s)
 unfolding starts
 sign-in c s at h = rw (drop-at s at h, and-true)

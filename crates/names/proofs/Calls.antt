@@ -7,6 +7,7 @@ use Rattle.spec.proofs.Characters.AppendixB.{appendix-B-ascii}
 use Rattle.spec.proofs.Wellformed.Checks.{name-agrees}
 use Rattle.source.proofs.Admitting.{calling}
 
+-- this dialect's rule for names accepts what its grammar derives
 pub name-agrees-B : Agrees (check-name appendix-B) (Name appendix-B)
 name-agrees-B = name-agrees appendix-B appendix-B-ascii
 

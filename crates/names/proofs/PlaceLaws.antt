@@ -3,12 +3,12 @@ use mathlib.Core.Path.{_≡_, refl, sym, ap, subst, _∙_}
 use mathlib.Core.Bool.{Bool, true, false, _||_, not, true≢false}
 use mathlib.Core.List.{List}
 use Prim.Native.Nat.{ℕ, _+_, _-_, _<_, _≤_}
-use native.Mathlib.Nat.{add-assoc, add-zero, zero-add, min-eq-left}
+use native.Mathlib.Nat.{add-assoc, add-zero, zero-add}
 use native.Mathlib.Omega.{arith}
 use borrow.Author.Needs.{needs}
 use borrow.Author.Tests.{not-true, not-false}
-use lib.ListN.{length, take, drop, getD, length-drop, length-take}
-use lib.Seq.{drop-drop, take-nil}
+use lib.ListN.{length, take, drop, getD, length-drop}
+use lib.Seq.{drop-drop, take-nil, length-take-le}
 use Rattle.spec.specs.Grammar.Names.{Dialect, Name}
 use Rattle.spec.specs.Reading.Refusals.{number, bad-name}
 use Rattle.spec.specs.Reading.Utf8.{decode1}
@@ -106,9 +106,12 @@ module _ (D : Dialect) (s : List ℕ) (at : ℕ) where
 
 -- the part that a name is
 module _ (D : Dialect) (s : List ℕ) (at : ℕ) where
+  pub part-length : (p : List ℕ) → p ≡ take (name-length D (drop at s)) (drop at s) → length p ≡ name-length D (drop at s)
+  part-length p e = ap length e ∙ length-take-le (name-length D (drop at s)) (drop at s) (name-within D (drop at s))
+
   part-is : (p : List ℕ) → p ≡ take (name-length D (drop at s)) (drop at s) → NamePart D (drop at s) p
   part-is p e =
-      let n : length p ≡ name-length D (drop at s) = ap length e ∙ length-take (name-length D (drop at s)) (drop at s) ∙ min-eq-left (name-within D (drop at s)) in
+      let n = part-length p e in
       record {
         part = e;
         name = λ h. subst (Name D) (sym e) (name-is-name D (drop at s) (λ z. h (n ∙ z)));

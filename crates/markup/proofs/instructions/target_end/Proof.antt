@@ -9,7 +9,7 @@ use Rattle.markup.proofs.instructions.target_end.Statement.{statement}
 use Rattle.markup.proofs.instructions.target_end.Tie as tie
 
 abbrev Inv-loop : tie.InvT-loop
-Inv-loop t i₀ i = i + run (none-of " \t\r\n") (drop i t) ≡ run (none-of " \t\r\n") t
+Inv-loop t i₀ i = i + run (none-of " \t\r\n") (drop i t) ≡ 0 + run (none-of " \t\r\n") (drop 0 t)
 
 abbrev μ-loop : tie.MeasureT-loop
 μ-loop t i₀ i = length t - i
