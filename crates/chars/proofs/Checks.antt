@@ -21,7 +21,7 @@ use Rattle.chars.proofs.Bytes.{calm}
 use Rattle.chars.proofs.Steps.{Plain, plain-byte, plain-wider, plain-choose, plain-on, walk-skip, steps}
 
 -- the steps take a byte as it stands that is not special to them
-pub plain-suspect : Plain legal-byte suspect
+plain-suspect : Plain legal-byte suspect
 unfolding legal-byte
 plain-suspect = plain-choose illegal-here (refuse illegal-char) a-byte suspect calm (plain-byte suspect)
 

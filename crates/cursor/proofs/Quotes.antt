@@ -91,7 +91,7 @@ literal-read check s at e l =
     go (err n) k = refl
 
 -- to e, if nothing is checked
-pub literal-whole : (s : List ℕ) (at e : ℕ) → Literal s at e → At e ≡ read (parse-quoted nothing) s at
+literal-whole : (s : List ℕ) (at e : ℕ) → Literal s at e → At e ≡ read (parse-quoted nothing) s at
 unfolding nothing
 literal-whole s at e l = ap At (let k : e ≡ at + (e - at) = omega (arith, l .ends) in k) ∙ sym (literal-read nothing s at e l)
 

@@ -63,7 +63,7 @@ module _ (P R : Lfts 1 → RattleType) (F : (κs : Lfts 1) → P κs .Denot → 
       Own = P (κ, tt) .own x (v ∷ [])
 
       -- what is owed when the machine value u is returned
-      abbrev pub Owed : Val → SProp 𝓤
+      abbrev Owed : Val → SProp 𝓤
       Owed = walkOf 𝓤 H A ended stays (clauses 𝓤) .post (((κ, tt), (q, tt), tt, (x, tt), (v ∷ [], tt)), tt)
 
       pub ends : (r : R (κ, tt) .Denot) (u : Val) → F (κ, tt) x r → ent 𝓤 (⋆ 𝓤 H A (‵ (R (κ, tt) .own r (u ∷ [])) ∷ token κ q ∷ ‵ Own ∷ [])) (Owed u)
