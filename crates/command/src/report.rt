@@ -41,8 +41,8 @@ fn refused(out: &mut [u8], to: usize, text: &[u8], number: u8, at: usize) -> usi
     let n = placed(
         out,
         to,
-        stops::line_of(text, at),
-        stops::column_of(text, at),
+        lines::line_of(text, at),
+        lines::column_of(text, at),
     );
     let n = bytes::append(out, n, b": refused with ");
     numbered(out, n, number)

@@ -1,3 +1,2 @@
 pub mod Reaching
 pub mod Looping
-pub mod Counting

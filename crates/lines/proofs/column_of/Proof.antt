@@ -1,11 +1,11 @@
--- `stops::lines::column_of` meets its contract. The invariant: n is the column of the place i. Assumes nothing.
+-- `lines::column_of` meets its contract. The invariant: n is the column of the place i. Assumes nothing.
 use mathlib.Core.Path.{_≡_}
 use Prim.Native.Nat.{_-_, _≤_}
 use lib.ListN.{length}
-use Rattle.stops.specs.Lines.{column}
-use Rattle.stops.proofs.Counting.{columns}
-use Rattle.stops.proofs.lines.column_of.Statement.{statement}
-use Rattle.stops.proofs.lines.column_of.Tie as tie
+use Rattle.lines.specs.Lines.{column}
+use Rattle.lines.proofs.Counting.{columns}
+use Rattle.lines.proofs.column_of.Statement.{statement}
+use Rattle.lines.proofs.column_of.Tie as tie
 
 abbrev Inv-loop : tie.InvT-loop
 Inv-loop text at n₀ i₀ n i = (n ≡ column text i) × (i ≤ at)

@@ -15,7 +15,7 @@ use Rattle.spec.specs.Basics.{pick}
 use Rattle.spec.specs.Reading.Readers.{starts, contains}
 use Rattle.spec.proofs.Agreement.Words.{contains-at}
 use Rattle.spec.proofs.Base.Tests.{eqb-yes, eqb-no}
-use Rattle.stops.specs.Lines.{count, newline, continues, last-line, line, column}
+use Rattle.lines.specs.Lines.{count, newline, continues, last-line, line, column}
 
 -- a byte more at the end
 count-snoc : (p : ℕ → Bool) (u : List ℕ) (b : ℕ) → count p (u ++ (b ∷ [])) ≡ pick (p b) (suc (count p u)) (count p u)

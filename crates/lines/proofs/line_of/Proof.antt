@@ -1,11 +1,11 @@
--- `stops::lines::line_of` meets its contract. The invariant: n is the line of the place i. Assumes nothing.
+-- `lines::line_of` meets its contract. The invariant: n is the line of the place i. Assumes nothing.
 use mathlib.Core.Path.{_≡_}
 use Prim.Native.Nat.{_-_, _≤_}
 use lib.ListN.{length}
-use Rattle.stops.specs.Lines.{line}
-use Rattle.stops.proofs.Counting.{lines}
-use Rattle.stops.proofs.lines.line_of.Statement.{statement}
-use Rattle.stops.proofs.lines.line_of.Tie as tie
+use Rattle.lines.specs.Lines.{line}
+use Rattle.lines.proofs.Counting.{lines}
+use Rattle.lines.proofs.line_of.Statement.{statement}
+use Rattle.lines.proofs.line_of.Tie as tie
 
 abbrev Inv-loop : tie.InvT-loop
 Inv-loop text at n₀ i₀ n i = (n ≡ line text i) × (i ≤ at)

@@ -1,6 +1,6 @@
 // A place as a line and a column, both from 1. A place past the end counts as the end.
 ghost use mathlib.Core.Path.{_≡_};
-ghost use Rattle.stops.specs.Lines.{continues, line, column};
+ghost use Rattle.lines.specs.Lines.{continues, line, column};
 
 // A byte that goes on with a character of UTF-8, and begins none.
 fn is_continuation(b: u8) -> bool
