@@ -1,3 +1,1 @@
-pub mod Finishing
-pub mod Looping
 pub mod Whole

@@ -20,7 +20,7 @@ use Rattle.error.specs.Read.{read}
 use Rattle.error.specs.declared.Answer.{Answer}
 use Rattle.source.proofs.Admitting.{call-refused, call-answered}
 use Rattle.cursor.proofs.Reading.{reading}
-use Rattle.dtd.specs.Kinds.{id-part}
+use Rattle.dtd.specs.Parts.{id-part}
 
 -- an external identifier stands at a place, by either of its words, or none does
 module _ (s : List ℕ) (at : ℕ) (a b : Bool) (e : a ≡ starts (ascii "SYSTEM") (drop at s)) (f : b ≡ starts (ascii "PUBLIC") (drop at s)) (q : Answer) where

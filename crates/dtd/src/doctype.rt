@@ -1,5 +1,4 @@
 // The whole DOCTYPE: check_doctype of dtd.rs.
-use crate::subset::parse_internal_subset;
 use classes::Names;
 use cursor::at_end;
 use cursor::eat_str;
@@ -12,6 +11,7 @@ use error::UNEXPECTED;
 use error::number;
 use search::at_keyword;
 use source::admit;
+use subset::parse_internal_subset;
 ghost use mathlib.Core.Path.{_≡_};
 ghost use Rattle.spec.specs.Grammar.AppendixB.{appendix-B};
 ghost use Rattle.spec.specs.Reading.Dtd.{check-doctype};
@@ -19,7 +19,7 @@ ghost use Rattle.spec.specs.Reading.Readers.{number-of};
 ghost use Rattle.spec.specs.Promises.{ChecksDoctype};
 ghost use Rattle.error.specs.Read.{read};
 ghost use Rattle.classes.specs.Classes.{dialect};
-ghost use Rattle.dtd.specs.Kinds.{id-part, subset-part};
+ghost use Rattle.dtd.specs.Parts.{id-part, subset-part};
 
 // (S ExternalID)? of [28], the white space before it passed, and the white space after it
 pub fn parse_id_part(s: &[u8], at: usize) -> Answer

@@ -22,7 +22,7 @@ use Rattle.error.specs.Read.{read}
 use Rattle.error.specs.declared.Answer.{Answer}
 use Rattle.error.specs.declared.Answer.the-variants.{At, No}
 use Rattle.error.proofs.Laws.{walk-less}
-use Rattle.dtd.proofs.Looping.{sign-at}
+use Rattle.subset.proofs.Looping.{sign-at}
 use Rattle.stops.specs.Reached.{marked, reach, whole-subset}
 use Rattle.stops.specs.declared.places.Reached.{Reached}
 use Rattle.stops.specs.declared.places.Reached.the-variants.{Passed, Stopped}

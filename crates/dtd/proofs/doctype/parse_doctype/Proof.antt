@@ -1,6 +1,6 @@
 -- `dtd::doctype::parse_doctype` meets its contract. Assumes nothing.
 use Rattle.spec.specs.Reading.Dtd.{check-doctype}
-use Rattle.dtd.specs.Kinds.{id-part, subset-part}
+use Rattle.dtd.specs.Parts.{id-part, subset-part}
 use Rattle.dtd.proofs.Whole.{parts-read}
 use Rattle.dtd.proofs.doctype.parse_doctype.Statement.{statement}
 use Rattle.dtd.proofs.doctype.parse_doctype.Tie as tie

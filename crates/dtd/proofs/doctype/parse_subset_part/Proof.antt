@@ -1,6 +1,6 @@
 -- `dtd::doctype::parse_subset_part` meets its contract. Assumes nothing.
 use Rattle.spec.specs.Reading.Readers.{on}
-use Rattle.dtd.specs.Kinds.{subset-part}
+use Rattle.dtd.specs.Parts.{subset-part}
 use Rattle.dtd.proofs.Whole.{parts-read}
 use Rattle.dtd.proofs.doctype.parse_subset_part.Statement.{statement}
 use Rattle.dtd.proofs.doctype.parse_subset_part.Tie as tie

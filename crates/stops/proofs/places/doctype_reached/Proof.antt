@@ -1,6 +1,6 @@
 -- `stops::places::doctype_reached` meets its contract. Assumes nothing.
 use Rattle.spec.specs.Reading.Stops.{doctype-progress}
-use Rattle.dtd.specs.Kinds.{id-part}
+use Rattle.dtd.specs.Parts.{id-part}
 use Rattle.stops.specs.Reached.{whole-subset, subset-part, rest}
 use Rattle.stops.proofs.Reaching.{reaching}
 use Rattle.stops.proofs.places.doctype_reached.Statement.{statement}

@@ -1,9 +1,9 @@
--- `dtd::declarations::parse_entity_or_notation` meets its contract. Assumes nothing.
+-- `subset::declarations::parse_entity_or_notation` meets its contract. Assumes nothing.
 use Rattle.spec.specs.Reading.Readers.{on}
-use Rattle.dtd.specs.Kinds.{body-of, entity-or-notation}
+use Rattle.subset.specs.Kinds.{body-of, entity-or-notation}
 use Rattle.cursor.proofs.Reading.{reading}
-use Rattle.dtd.proofs.declarations.parse_entity_or_notation.Statement.{statement}
-use Rattle.dtd.proofs.declarations.parse_entity_or_notation.Tie as tie
+use Rattle.subset.proofs.declarations.parse_entity_or_notation.Statement.{statement}
+use Rattle.subset.proofs.declarations.parse_entity_or_notation.Tie as tie
 
 pub parse-entity-or-notation-spec : {M : Type 1} → statement M
 unfolding on entity-or-notation body-of

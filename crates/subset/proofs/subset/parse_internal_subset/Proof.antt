@@ -1,4 +1,4 @@
--- `dtd::subset::parse_internal_subset` meets its contract. The invariant: the answer for the items from i on is the whole answer.
+-- `subset::subset::parse_internal_subset` meets its contract. The invariant: the answer for the items from i on is the whole answer.
 -- Assumes nothing.
 use mathlib.Core.Path.{_≡_}
 use Prim.Native.Nat.{_-_}
@@ -7,9 +7,9 @@ use Rattle.spec.specs.Reading.Dtd.{parse-internal-subset}
 use Rattle.spec.proofs.Dtd.Items.{items}
 use Rattle.error.specs.Read.{read}
 use Rattle.classes.specs.Classes.{dialect}
-use Rattle.dtd.proofs.Looping.{looping}
-use Rattle.dtd.proofs.subset.parse_internal_subset.Statement.{statement}
-use Rattle.dtd.proofs.subset.parse_internal_subset.Tie as tie
+use Rattle.subset.proofs.Looping.{looping}
+use Rattle.subset.proofs.subset.parse_internal_subset.Statement.{statement}
+use Rattle.subset.proofs.subset.parse_internal_subset.Tie as tie
 
 abbrev Inv-loop : tie.InvT-loop
 Inv-loop s at names pe-used₀ i₀ pe-used i = read (items (dialect names) pe-used) s i ≡ read (parse-internal-subset (dialect names)) s at

@@ -1,8 +1,8 @@
--- `dtd::declarations::parse_body` meets its contract. Assumes nothing.
-use Rattle.dtd.specs.Kinds.{body-of}
-use Rattle.dtd.proofs.Finishing.{bodied}
-use Rattle.dtd.proofs.declarations.parse_body.Statement.{statement}
-use Rattle.dtd.proofs.declarations.parse_body.Tie as tie
+-- `subset::declarations::parse_body` meets its contract. Assumes nothing.
+use Rattle.subset.specs.Kinds.{body-of}
+use Rattle.subset.proofs.Finishing.{bodied}
+use Rattle.subset.proofs.declarations.parse_body.Statement.{statement}
+use Rattle.subset.proofs.declarations.parse_body.Tie as tie
 
 pub parse-body-spec : {M : Type 1} → statement M
 unfolding body-of

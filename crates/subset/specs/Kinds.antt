@@ -1,21 +1,11 @@
--- The readers of dtd.rs that its code names apart: a body by its kind, and the parts of the DOCTYPE. Assumes nothing.
-use mathlib.Core.Bool.{Bool, _||_}
-use Rattle.spec.specs.Grammar.Languages.{ascii}
+-- The readers of declarations that the code names apart: a body by its kind, and the choice among the four kinds. Assumes nothing.
+use mathlib.Core.Bool.{Bool}
 use Rattle.spec.specs.Grammar.Names.{Dialect}
 use Rattle.spec.specs.Reading.Refusals.{unexpected}
-use Rattle.spec.specs.Reading.Readers.{Reader, _>>_, nothing, starts, choose, on, word}
-use Rattle.spec.specs.Reading.Dtd.{
-  skip-s,
-  parse-external-id,
-  parse-element-decl,
-  parse-attlist-decl,
-  parse-entity-decl,
-  parse-notation-decl,
-  finish-decl,
-  parse-internal-subset,
-}
-use Rattle.dtd.specs.declared.declarations.Kind.{Kind}
-use Rattle.dtd.specs.declared.declarations.Kind.the-variants.{Element, Attlist, Entity, Notation}
+use Rattle.spec.specs.Reading.Readers.{Reader, _>>_, on, word}
+use Rattle.spec.specs.Reading.Dtd.{parse-element-decl, parse-attlist-decl, parse-entity-decl, parse-notation-decl, finish-decl}
+use Rattle.subset.specs.declared.declarations.Kind.{Kind}
+use Rattle.subset.specs.declared.declarations.Kind.the-variants.{Element, Attlist, Entity, Notation}
 
 -- what finish_decl of the Rust is handed
 unfoldable pub body-of : Dialect → Kind → Reader
@@ -35,10 +25,3 @@ declaration D pe-used =
     on "<!ELEMENT" (word "<!ELEMENT" unexpected >> finish-decl D pe-used (parse-element-decl D))
     (on "<!ATTLIST" (word "<!ATTLIST" unexpected >> finish-decl D pe-used (parse-attlist-decl D))
     (entity-or-notation D pe-used))
-
--- the two optional parts of check_doctype
-unfoldable pub id-part : Reader
-id-part = choose (λ w. starts (ascii "SYSTEM") w || starts (ascii "PUBLIC") w) (parse-external-id >> skip-s) nothing
-
-unfoldable pub subset-part : Dialect → Reader
-subset-part D = on "[" (word "[" unexpected >> parse-internal-subset D >> skip-s) nothing

@@ -1,9 +1,9 @@
--- `dtd::declarations::parse_declaration` meets its contract. Assumes nothing.
+-- `subset::declarations::parse_declaration` meets its contract. Assumes nothing.
 use Rattle.spec.specs.Reading.Readers.{on}
-use Rattle.dtd.specs.Kinds.{body-of, declaration}
+use Rattle.subset.specs.Kinds.{body-of, declaration}
 use Rattle.cursor.proofs.Reading.{reading}
-use Rattle.dtd.proofs.declarations.parse_declaration.Statement.{statement}
-use Rattle.dtd.proofs.declarations.parse_declaration.Tie as tie
+use Rattle.subset.proofs.declarations.parse_declaration.Statement.{statement}
+use Rattle.subset.proofs.declarations.parse_declaration.Tie as tie
 
 pub parse-declaration-spec : {M : Type 1} → statement M
 unfolding on declaration body-of

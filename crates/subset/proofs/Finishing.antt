@@ -17,8 +17,8 @@ use Rattle.error.specs.Read.{placed, read}
 use Rattle.error.specs.declared.Answer.{Answer}
 use Rattle.error.specs.declared.Answer.the-variants.{At, No}
 use Rattle.error.proofs.Laws.{was-ok, was-err}
-use Rattle.dtd.specs.Kinds.{body-of}
-use Rattle.dtd.specs.declared.declarations.Kind.{Kind}
+use Rattle.subset.specs.Kinds.{body-of}
+use Rattle.subset.specs.declared.declarations.Kind.{Kind}
 
 -- r is what take_decl_body gave: the body's end
 module _ (s : List ℕ) (at : ℕ) (r : Answer) (a : r ≡ read (take-decl-body 0) s at) (end : ℕ) (e : r ≡ At end) where

@@ -20,7 +20,7 @@ ghost use mathlib.Core.Path.{_≡_};
 ghost use Rattle.spec.specs.Reading.Dtd.{parse-element-decl, finish-decl, parse-markup-decl};
 ghost use Rattle.error.specs.Read.{read};
 ghost use Rattle.classes.specs.Classes.{dialect};
-ghost use Rattle.dtd.specs.Kinds.{body-of, entity-or-notation, declaration};
+ghost use Rattle.subset.specs.Kinds.{body-of, entity-or-notation, declaration};
 
 // What finish_decl of the Rust is handed as a function.
 pub enum Kind {

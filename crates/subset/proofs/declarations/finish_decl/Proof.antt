@@ -1,7 +1,7 @@
--- `dtd::declarations::finish_decl` meets its contract. Assumes nothing.
-use Rattle.dtd.proofs.Finishing.{finishing}
-use Rattle.dtd.proofs.declarations.finish_decl.Statement.{statement}
-use Rattle.dtd.proofs.declarations.finish_decl.Tie as tie
+-- `subset::declarations::finish_decl` meets its contract. Assumes nothing.
+use Rattle.subset.proofs.Finishing.{finishing}
+use Rattle.subset.proofs.declarations.finish_decl.Statement.{statement}
+use Rattle.subset.proofs.declarations.finish_decl.Tie as tie
 
 pub finish-decl-spec : {M : Type 1} → statement M
 finish-decl-spec =
