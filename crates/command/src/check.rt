@@ -11,7 +11,7 @@ use error::UNTERMINATED;
 use gate::Gate;
 use gate::Reply;
 use prolog::Item;
-use source::Point;
+use utf8::Point;
 
 // The lengths of `<?` and `?>`, of `<!DOCTYPE`, and of `>`.
 const MARK: usize = 2;
@@ -90,7 +90,7 @@ fn root(text: &[u8], whole: bool, seen: bool, a: usize) -> Verdict {
 
 // '<' and a name.
 fn begins_element(rest: &[u8]) -> bool {
-    if source::byte_at(rest, 0) == b'<' {
+    if utf8::byte_at(rest, 0) == b'<' {
         return names::name_end(rest, 1, Names::AppendixB) > 1;
     }
     false
@@ -98,7 +98,7 @@ fn begins_element(rest: &[u8]) -> bool {
 
 // The number for what no document has after its prolog. A file in another encoding shows here.
 fn foreign(text: &[u8], a: usize) -> u8 {
-    match source::code_point(text, a) {
+    match utf8::code_point(text, a) {
         Point::Is(_, _) => UNEXPECTED,
         Point::Not => NOT_UTF8,
     }

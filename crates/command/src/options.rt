@@ -28,7 +28,7 @@ pub fn kind(word: &[u8], ended: bool) -> Word {
     if ended {
         return Word::File;
     }
-    if source::byte_at(word, 0) != b'-' {
+    if utf8::byte_at(word, 0) != b'-' {
         return Word::File;
     }
     // A `-` alone is standard input.
@@ -36,7 +36,7 @@ pub fn kind(word: &[u8], ended: bool) -> Word {
         return Word::File;
     }
     if word.len() == 2 {
-        return short(source::byte_at(word, 1));
+        return short(utf8::byte_at(word, 1));
     }
     if bytes::same(word, b"--help") {
         return Word::Help;

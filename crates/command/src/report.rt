@@ -3,7 +3,7 @@ use crate::bytes;
 use crate::check::Verdict;
 use crate::words;
 use libc::STDOUT_FILENO;
-use source::Point;
+use utf8::Point;
 
 // At most so many bytes of what is refused are shown.
 const SHOWN: usize = 120;
@@ -93,7 +93,7 @@ fn ends_line(b: u8) -> bool {
 
 // The length of the character that stands at `at`. A byte that begins none counts alone.
 fn width(text: &[u8], at: usize) -> usize {
-    match source::code_point(text, at) {
+    match utf8::code_point(text, at) {
         Point::Is(_, n) => n,
         Point::Not => 1,
     }
@@ -101,7 +101,7 @@ fn width(text: &[u8], at: usize) -> usize {
 
 // Puts a character, or a '.' for one that would act on the terminal and for a byte that is no character.
 fn character(out: &mut [u8], at: usize, part: &[u8]) -> usize {
-    match source::code_point(part, 0) {
+    match utf8::code_point(part, 0) {
         Point::Is(c, _) => {
             if is_control(c) {
                 bytes::put(out, at, b'.')

@@ -21,7 +21,7 @@ use Rattle.error.specs.Read.{placed, read}
 use Rattle.error.specs.declared.Answer.{Answer}
 use Rattle.error.specs.declared.Answer.the-variants.{At, No}
 use Rattle.error.proofs.Laws.{placed-past, read-on}
-use Rattle.source.proofs.Points.{points}
+use Rattle.utf8.proofs.Points.{points}
 use Rattle.search.specs.FirstPlace.{first-place}
 use Rattle.search.specs.declared.places.Found.{Found}
 use Rattle.search.specs.declared.places.Found.the-variants.{Here, Nowhere}

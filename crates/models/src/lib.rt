@@ -5,7 +5,7 @@ use cursor::need_name;
 use cursor::skip_s;
 use error::Answer;
 use search::at_keyword;
-use source::byte_at;
+use utf8::byte_at;
 ghost use mathlib.Core.Path.{_≡_};
 ghost use mathlib.Core.List.{[], _∷_};
 ghost use lib.ListN.{drop};

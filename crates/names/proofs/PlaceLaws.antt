@@ -17,11 +17,11 @@ use Rattle.spec.specs.Reading.Wellformed.{parts, name, name-length, check-name}
 use Rattle.spec.proofs.Base.Tests.{or-false-left, or-false-right}
 use Rattle.spec.proofs.Base.Places.{drop-at, drop-end}
 use Rattle.spec.proofs.Wellformed.LongestName.{char-is, char-not, char-none, chars-stop, chars-turn, parts-ok, name-first, name-none, Named, a-name, no-name, named, name-within, name-is-name, name-longest}
-use Rattle.source.specs.Seen.{seen}
-use Rattle.source.specs.declared.Point.{Point}
-use Rattle.source.specs.declared.Point.the-variants.{Is, Not}
-use Rattle.source.proofs.Points.{code-at, none-at, point-fits, point-less}
-use Rattle.source.proofs.Decoding.{code-one}
+use Rattle.utf8.specs.Seen.{seen}
+use Rattle.utf8.specs.declared.Point.{Point}
+use Rattle.utf8.specs.declared.Point.the-variants.{Is, Not}
+use Rattle.utf8.proofs.Points.{code-at, none-at, point-fits, point-less}
+use Rattle.utf8.proofs.Decoding.{code-one}
 use Rattle.classes.specs.Classes.{dialect, ascii-start, ascii-part}
 use Rattle.names.specs.Names.{AsciiRun, AnyName}
 use Rattle.names.specs.NamePart.{NamePart}

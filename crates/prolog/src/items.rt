@@ -4,7 +4,7 @@ use cursor::skip_s;
 use search::Found;
 use search::at_keyword;
 use search::find;
-use source::byte_at;
+use utf8::byte_at;
 ghost use mathlib.Core.Path.{_≡_};
 ghost use lib.ListN.{drop};
 ghost use Rattle.spec.specs.Grammar.Languages.{one-of};

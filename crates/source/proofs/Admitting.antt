@@ -19,7 +19,7 @@ use Rattle.spec.specs.Promises.{Checks, Tells}
 use Rattle.spec.proofs.Base.Tests.{leb-yes, leb-no}
 use Rattle.spec.proofs.Characters.Valid.{utf8-cases, utf8-complete}
 use Rattle.spec.proofs.Agreement.Accepts.{Agrees, Decides, admitted, not-admitted, promise, told, told-no}
-use Rattle.source.specs.Seen.{accepts}
+use Rattle.utf8.specs.Seen.{accepts}
 
 -- 1 before 2
 pub admit-long : (w : List ℕ) → limit < length w → 1 ≡ checked nothing w

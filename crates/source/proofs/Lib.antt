@@ -1,5 +1,1 @@
-pub mod Points
-pub mod Decoding
-pub mod Windows
-pub mod Parts
 pub mod Admitting

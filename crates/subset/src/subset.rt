@@ -6,7 +6,7 @@ use error::Answer;
 use error::UNEXPECTED;
 use error::UNTERMINATED;
 use markup::parse_pe_reference;
-use source::byte_at;
+use utf8::byte_at;
 ghost use mathlib.Core.Path.{_≡_};
 ghost use Rattle.spec.specs.Reading.Dtd.{parse-internal-subset};
 ghost use Rattle.error.specs.Read.{read};

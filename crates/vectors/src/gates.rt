@@ -51,7 +51,7 @@ fn phase_of(word: &[u8]) -> u8 {
         return 3;
     }
     if bytes::same(bytes::front(word, 7), b"doctype") {
-        return match source::byte_at(word, 7) {
+        return match utf8::byte_at(word, 7) {
             b'0' => 0,
             b'1' => 1,
             b'2' => 2,
@@ -128,16 +128,16 @@ fn record(column: &[u8]) -> Gate {
 }
 
 fn is_one(column: &[u8], at: usize) -> bool {
-    source::byte_at(column, at) == b'1'
+    utf8::byte_at(column, at) == b'1'
 }
 
 // The number of up to five digits that begins at 8, held at 65,535.
 fn number_at_8(column: &[u8]) -> u16 {
-    let n = digit_on(0, source::byte_at(column, 8));
-    let n = digit_on(n, source::byte_at(column, 9));
-    let n = digit_on(n, source::byte_at(column, 10));
-    let n = digit_on(n, source::byte_at(column, 11));
-    let n = digit_on(n, source::byte_at(column, 12));
+    let n = digit_on(0, utf8::byte_at(column, 8));
+    let n = digit_on(n, utf8::byte_at(column, 9));
+    let n = digit_on(n, utf8::byte_at(column, 10));
+    let n = digit_on(n, utf8::byte_at(column, 11));
+    let n = digit_on(n, utf8::byte_at(column, 12));
     if n < 65535 { n as u16 } else { 65535 }
 }
 

@@ -27,7 +27,7 @@ use Rattle.cursor.proofs.need_name.Reads as need-name-reads
 use Rattle.models.proofs.at_connector.Reads as at-connector-reads
 use Rattle.models.proofs.at_sign.Reads as at-sign-reads
 use Rattle.models.proofs.occurrence_end.Reads as occurrence-end-reads
-use Rattle.source.proofs.byte_at.Reads as byte-at-reads
+use Rattle.utf8.proofs.byte_at.Reads as byte-at-reads
 use Rattle.models.proofs.+group_end+parse_cp+parse_group.{statement}
 use Rattle.models.proofs.+group_end+parse_cp+parse_group.Tie.{close}
 

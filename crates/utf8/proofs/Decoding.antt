@@ -1,0 +1,84 @@
+-- Laws of decoding: one code point, and a text from its front. Assumes nothing.
+use mathlib.Core.Path.{_≡_, refl, sym, ap, _∙_}
+use mathlib.Core.Bool.{Bool, true, false}
+use mathlib.Core.List.{List}
+use Prim.Native.Nat.{ℕ, _+_, _*_, _%_, _<_, _≤_}
+use native.Mathlib.Omega.{arith}
+use borrow.Author.Needs.{needs}
+use lib.ListN.{length, getD, drop}
+use lib.Seq.{drop-drop, getD-drop}
+use Rattle.spec.specs.Reading.Utf8.{point, two, three, four, decode4, decode1}
+use Rattle.spec.specs.Reading.Readers.{Result, ok, err, past}
+use Rattle.spec.specs.Reading.Source.{utf8}
+use Rattle.spec.proofs.Base.Places.{drop-at, drop-end, byte-past}
+use Rattle.spec.proofs.Characters.Utf8.{decode4-1, decode4-2, decode4-3, decode4-4, decode4-no}
+use Rattle.spec.proofs.Characters.Valid.{utf8-end, utf8-turn, utf8-stop}
+use Rattle.utf8.specs.Seen.{seen, accepts}
+use Rattle.utf8.specs.declared.Point.{Point}
+use Rattle.utf8.specs.declared.Point.the-variants.{Is, Not}
+use Rattle.utf8.proofs.Points.{code-at, none-at, point-fits, point-less}
+
+-- the code's four forms, by the tests in order; t, u and v are what the tests say
+module _ (a b c d : ℕ) where
+  pub one-is : a < 0x80 → Is a 1 ≡ seen (decode4 a b c d)
+  one-is h = ap seen (sym (decode4-1 a b c d h))
+
+module _ (a b c d : ℕ) (h : 0x80 ≤ a) (t : Bool) (et : t ≡ two a b) where
+  pub two-is : t ≡ true → Is (a % 32 * 64 + b % 64) 2 ≡ seen (decode4 a b c d)
+  two-is e = ap seen (sym (decode4-2 a b c d h (sym et ∙ e)))
+
+  module _ (e : t ≡ false) (u : Bool) (eu : u ≡ three a b c) where
+    pub three-is : u ≡ true → (p : ℕ) → p ≡ a % 16 * 4096 + b % 64 * 64 + c % 64 → Is p 3 ≡ seen (decode4 a b c d)
+    three-is f p g = rw g (ap seen (sym (decode4-3 a b c d h (sym et ∙ e) (sym eu ∙ f))))
+
+    module _ (f : u ≡ false) (v : Bool) (ev : v ≡ four a b c d) where
+      pub four-is : v ≡ true → (p : ℕ) → p ≡ a % 8 * 262144 + b % 64 * 4096 + c % 64 * 64 + d % 64 → Is p 4 ≡ seen (decode4 a b c d)
+      four-is g p k = rw k (ap seen (sym (decode4-4 a b c d h (sym et ∙ e) (sym eu ∙ f) (sym ev ∙ g))))
+
+      pub none-is : v ≡ false → Not ≡ seen (decode4 a b c d)
+      none-is g = ap seen (sym (decode4-no a b c d h (sym et ∙ e) (sym eu ∙ f) (sym ev ∙ g)))
+
+-- at a place
+pub code-none : (s : List ℕ) (at : ℕ) → length s ≤ at → Not ≡ seen (decode1 (drop at s))
+unfolding decode1
+code-none s at h = rw (drop-end s at h)
+
+pub code-is : (s : List ℕ) (at b c d : ℕ) (r : Point) → at < length s → b ≡ getD s (at + 1) 0 → c ≡ getD s (at + 2) 0 → d ≡ getD s (at + 3) 0
+    → r ≡ seen (decode4 (getD s at 0) b c d) → r ≡ seen (decode1 (drop at s))
+unfolding decode1
+code-is s at b c d r h eb ec ed e =
+    let n1 : at + 1 + 0 ≡ at + 1 = omega arith in
+    let n2 : at + 1 + 1 ≡ at + 2 = omega arith in
+    let n3 : at + 1 + 2 ≡ at + 3 = omega arith in
+    e ∙ (rw (drop-at s at h, getD-drop (at + 1) s 0 0, getD-drop (at + 1) s 1 0, getD-drop (at + 1) s 2 0, n1, n2, n3, ← eb, ← ec, ← ed))
+
+pub code-one : (s : List ℕ) (at : ℕ) → at < length s → getD s at 0 < 0x80 → Is (getD s at 0) 1 ≡ seen (decode1 (drop at s))
+code-one s at h k = code-is s at _ _ _ (Is (getD s at 0) 1) h refl refl refl (one-is (getD s at 0) _ _ _ k)
+
+-- a text from its front: a code point decides as little as its absence decides all
+accepts-past : (k : ℕ) (x : Result) → accepts (past k x) ≡ accepts x
+accepts-past k (ok j) = refl
+accepts-past k (err r) = refl
+
+pub accepts-turn : (w : List ℕ) (c k : ℕ) → decode1 w ≡ point c k → accepts (utf8 w) ≡ accepts (utf8 (drop k w))
+accepts-turn w c k e = ap accepts (utf8-turn w c k e) ∙ accepts-past k (utf8 (drop k w))
+
+module _ (s : List ℕ) (i : ℕ) (inv : accepts (utf8 (drop i s)) ≡ accepts (utf8 s)) where
+  pub valid-end : length s ≤ i → true ≡ accepts (utf8 s)
+  valid-end h = rw (drop-end s i h, utf8-end) at inv
+
+module _ (s : List ℕ) (i : ℕ) (p : Point) (h : i < length s) (a : p ≡ seen (decode1 (drop i s))) (inv : accepts (utf8 (drop i s)) ≡ accepts (utf8 s)) where
+  pub valid-no : p ≡ Not → false ≡ accepts (utf8 s)
+  valid-no e =
+      let d = drop-at s i h in
+      sym (ap accepts (ap utf8 d ∙ utf8-stop (getD s i 0) (drop (i + 1) s) (ap decode1 (sym d) ∙ none-at s i p a e))) ∙ inv
+
+  pub valid-go : (c k : ℕ) → p ≡ Is c k → accepts (utf8 (drop (i + k) s)) ≡ accepts (utf8 s)
+  valid-go c k e = (rw (← drop-drop)) ∙ sym (accepts-turn (drop i s) c k (code-at s i c k p a e)) ∙ inv
+
+-- what the proofs search: of decode; of a code point at a place; of a text from its front
+pub ruleset forms = (one-is, two-is, three-is, four-is, none-is, needs)
+
+pub ruleset places = (byte-past, code-none, code-one, code-is, needs)
+
+pub ruleset fronts = (point-fits, point-less, valid-end, valid-no, valid-go, needs)

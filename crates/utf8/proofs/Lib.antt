@@ -1,0 +1,4 @@
+pub mod Points
+pub mod Decoding
+pub mod Windows
+pub mod Parts

@@ -1,0 +1,21 @@
+-- `utf8::code_point` meets its contract. Assumes nothing.
+use Rattle.utf8.proofs.Decoding.{places}
+use Rattle.utf8.proofs.code_point.Statement.{statement}
+use Rattle.utf8.proofs.code_point.Tie as tie
+
+pub code-point-spec : {M : Type 1} → statement M
+code-point-spec =
+    tie.close
+    (tie.spec
+    (λ c. search places)  -- returns
+    (λ c. search places)  -- shared-slice-read-a
+    (λ c. search places)  -- cast-t8
+    (λ c. search places)  -- returns-2
+    (λ c. search places)  -- add-byte-at
+    (λ c κs. search places)  -- byte-at-requires
+    (λ c. search places)  -- add-byte-at-2
+    (λ c κs. search places)  -- byte-at-requires-2
+    (λ c. search places)  -- add-byte-at-3
+    (λ c κs. search places)  -- byte-at-requires-3
+    (λ c κs. search places)  -- decode-requires
+    (λ c. search places))  -- returns-3
