@@ -5,7 +5,7 @@
 
 ORACLE is the unchanged Rust behind a driver that fills the second column (docs/DIFFERENCES.md says which). The texts do not depend on
 it: the ends of every range of production 2 and of Appendix B and their neighbours, each byte sequence that RFC 3629 begins or breaks
-off, references around every limit, and texts and DOCTYPEs put together at random from a fixed seed.
+off, references around every limit, and texts, DOCTYPEs, XML declarations and the gate's calls put together at random from fixed seeds.
 """
 import random
 import re
@@ -228,6 +228,67 @@ def cuts(seed, count):
         line("scan", f"615b+{b'<!---->'.hex()}*{size // 7 - 1}+5d")
 
 
+# XML declarations: now and then a part of one is damaged, left out, doubled or put elsewhere.
+VERSIONS = ["1.", "1", "1.0a", "1,0", "2.0", "", " 1.0", "1.\u0660", "11.0"]
+ENCODINGS = ["8859", "", "u ", "-u", "\u00e9", "x\u00e9", ".u"]
+ANSWERS = ["maybe", "Yes", "", "nono", "yes ", "ye"]
+
+
+class Declarations:
+    def __init__(self, seed):
+        self.r = random.Random(seed)
+
+    def mostly(self, good, bad):
+        return self.r.choice(good if self.r.random() < 0.95 else bad)
+
+    def part(self, name, values, wrong):
+        q = self.r.choice("\"'")
+        eq = self.r.choice(["", "", " ", "\t\r\n"]) + self.mostly(["="], ["==", "", ":"]) + self.r.choice(["", "", " "])
+        word = self.mostly([name], [name[:-1], name + "x", name.upper()])
+        return self.mostly([" ", "\n", "  "], [""]) + word + eq + self.mostly([q], [""]) + self.mostly(values, wrong) + self.mostly([q], ["", "\"", "'"])
+
+    def declaration(self):
+        version = self.part("version", ["1.0", "1.1", "1.00", "1.0123456789"], VERSIONS)
+        encoding = self.part("encoding", ["UTF-8", "u", "Latin1", "a.b_c-d", "Zz-09"], ENCODINGS)
+        standalone = self.part("standalone", ["yes", "no"], ANSWERS)
+        parts = [version] + [x for x in (encoding, standalone) if self.r.random() < 0.6]
+        if self.r.random() < 0.06:
+            self.r.shuffle(parts)
+        if self.r.random() < 0.04:
+            parts.append(self.r.choice(parts))
+        return self.mostly(["xml"], ["XML", "xm", "", "xmlx"]) + "".join(parts) + self.mostly(["", " ", "\r\n"], ["?", "x", " ="])
+
+
+def declarations(seed, count):
+    made = Declarations(seed)
+    for _ in range(count):
+        line("check_declaration", made.declaration().encode())
+    line("check_declaration", b"")
+    line("check_declaration", b"xml version='1.0'\xff")
+    for size in (LIMIT - 1, LIMIT, LIMIT + 1):
+        line("check_declaration", f"{b'xml version='.hex()}+22312e+30*{size - 16}+22")
+        line("check_declaration", f"{b'xml version='.hex()}+22312e30+22+20*{size - 17}")
+
+
+# The gate: sequences of calls on one record, each from a record to begin with.
+def gates(seed, count):
+    r = random.Random(seed)
+    doctype, declaration = Doctypes(seed), Declarations(seed)
+    for _ in range(count):
+        bits = [r.choice("0001") for _ in range(3)]
+        print("gate_set", "/".join(["-"] + bits + [str(r.choice([0, 0, 0, 1, 255, 256, 65534, 65535]))]), "", sep="\t")
+        for _ in range(r.randint(1, 5)):
+            if r.random() < 0.4:
+                line("decl", r.choice([b"xml version='1.0'", declaration.declaration().encode(), b"\xff"]))
+            else:
+                text = doctype.damaged(doctype.doctype())
+                texts = [b"a", text.encode(), text[:r.randint(0, len(text))].encode(), b"a[<!ENTITY e '\x01'>]", b"\xff", b"a b[", b"a[]"]
+                line(r.choice(["doctype0", "doctype0", "doctype0", "doctype1", "doctype2"]), r.choice(texts))
+    print("gate_set", "-/0/0/0/65534", "", sep="\t")
+    for call in ("decl", "doctype0", "doctype1", "decl"):
+        line(call, f"61*{LIMIT + 1}")
+
+
 def main():
     print("# Made by tests/vectors/texts.py and answered by the unchanged Rust (docs/DIFFERENCES.md, \"Compared by running\").")
     characters()
@@ -238,6 +299,8 @@ def main():
     limits()
     doctypes(20261116, 4000)
     cuts(20261117, 40)
+    declarations(20261118, 1500)
+    gates(20261119, 500)
 
 
 if __name__ == "__main__":
