@@ -17,6 +17,7 @@ use Rattle.spec.specs.Reading.Readers.{Result, ok, err, Reader, number-of, on-o
 use Rattle.spec.specs.Reading.Dtd.{parse-quoted}
 use Rattle.spec.proofs.Base.Tests.{decide, eqb-true, or-cases, or-false-left, or-false-right}
 use Rattle.spec.proofs.Base.Places.{drop-at, drop-end}
+use Rattle.spec.proofs.Agreement.Words.{before-within}
 use Rattle.error.specs.Read.{read, placed}
 use Rattle.error.specs.declared.Answer.{Answer}
 use Rattle.error.specs.declared.Answer.the-variants.{At, No}
@@ -24,7 +25,7 @@ use Rattle.error.proofs.Laws.{At≢No, At-inj, number-ok, number-err}
 use Rattle.search.specs.FirstPlace.{first-place}
 use Rattle.search.specs.declared.places.Found.{Found}
 use Rattle.search.specs.declared.places.Found.the-variants.{Here, Nowhere}
-use Rattle.search.proofs.Finding.{word-within, was-nowhere, was-here, places-found}
+use Rattle.search.proofs.Finding.{was-nowhere, was-here, places-found}
 
 -- either quote mark, as the code tests it
 abbrev quote : ℕ → Bool
@@ -141,7 +142,7 @@ module _ (e : ℕ) (r : Answer) (b : r ≡ At e) (s : List ℕ) (at : ℕ) (a : 
   text-start = omega (arith, literal .ends)
 
   pub text-inside : e ≤ length s
-  text-inside = omega (arith, literal .ends, literal .inside, length-drop (at + 1) s, word-within (getD s at 0 ∷ []) (drop (at + 1) s) (literal .closes))
+  text-inside = omega (arith, literal .ends, literal .inside, length-drop (at + 1) s, before-within (getD s at 0 ∷ []) (drop (at + 1) s) (literal .closes))
 
   pub text-end : e - 1 ≤ length s
   text-end = omega (arith, text-inside)

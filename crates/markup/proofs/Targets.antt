@@ -2,7 +2,7 @@
 use mathlib.Core.Path.{_≡_, refl, sym, ap, _∙_}
 use mathlib.Core.Bool.{Bool, true, false, _&&_, _||_, not, or-false, or-assoc}
 use mathlib.Core.List.{List, [], _∷_}
-use Prim.Native.Nat.{ℕ, suc, _+_, _-_, _<_, _≤_}
+use Prim.Native.Nat.{ℕ, _+_, _-_, _<_, _≤_}
 use native.Mathlib.Nat.{zero-add}
 use native.Mathlib.Omega.{arith}
 use borrow.Author.Needs.{needs}
@@ -15,6 +15,7 @@ use Rattle.spec.specs.Reading.Refusals.{number, has-colon, reserved-target}
 use Rattle.spec.specs.Reading.Readers.{Result, ok, err, number-of, past, _>>_, run, contains}
 use Rattle.spec.specs.Reading.Wellformed.{check-name}
 use Rattle.spec.specs.Reading.Dtd.{reserved, check-target, check-pi}
+use Rattle.spec.proofs.Base.Places.{run-within}
 use Rattle.error.proofs.Laws.{number-ok, number-err}
 use Rattle.search.proofs.Runs.{run-end, run-stop, run-go}
 
@@ -77,14 +78,8 @@ module _ (w : List ℕ) (i : ℕ) (inv : i + run (none-of " \t\r\n") (drop i w) 
     target-go e = run-go _ w 0 i inv h (blank false e)
 
 -- a target lies within the text
-pub run-within : (p : ℕ → Bool) (w : List ℕ) (e : ℕ) → e ≡ run p w → e ≤ length w
-unfolding run
-run-within p [] e f = omega arith
-run-within p (b ∷ w) e f = go (p b) f (run-within p w (run p w) refl)
-  where
-    go : (t : Bool) → e ≡ pick t (suc (run p w)) 0 → run p w ≤ length w → e ≤ suc (length w)
-    go true g h = omega arith
-    go false g h = omega arith
+pub target-within : (p : ℕ → Bool) (w : List ℕ) (e : ℕ) → e ≡ run p w → e ≤ length w
+target-within p w e f = omega (arith, run-within p w)
 
 pub target-part : (D : Dialect) (w : List ℕ) (e m : ℕ) → e ≡ run (none-of " \t\r\n") w → m ≡ number-of (check-target D (take (e - 0) (drop 0 w))) → m ≡ number-of (check-pi D w)
 unfolding check-pi
@@ -92,4 +87,4 @@ target-part D w e m f g = g ∙ (let z : e - 0 ≡ run (none-of " \t\r\n") w = o
 
 -- what code over names and targets searches
 pub ruleset targets =
-    (target-unnamed, target-colon, target-reserved, target-taken, reserved-long, reserved-three, target-whole, target-stop, target-go, run-within, target-part, needs)
+    (target-unnamed, target-colon, target-reserved, target-taken, reserved-long, reserved-three, target-whole, target-stop, target-go, target-within, target-part, needs)

@@ -19,21 +19,23 @@ use Rattle.spec.specs.Grammar.Languages.{ascii, one-of}
 use Rattle.spec.specs.Reading.Prolog as Rule
 use Rattle.spec.specs.Reading.Prolog.{word-at, doctype-end, is-declaration, next-item}
 use Rattle.spec.specs.Reading.Readers.{starts, begins, run}
-use Rattle.spec.specs.Reading.Scan.{Place, at, nowhere, later}
+use Rattle.spec.specs.Reading.Places.{Place, at, nowhere, later}
 use Rattle.spec.proofs.Agreement.Words.{starts-split}
 use Rattle.spec.proofs.Base.Places.{drop-end, front-at}
 use Rattle.spec.proofs.Base.Tests.{and-left, decide}
 use Rattle.spec.proofs.Prolog.Misc.{begins-sign}
 use Rattle.spec.proofs.Prolog.Turns.{moved, moved-none, next-space, next-comment, next-cut-comment, next-declaration, next-instruction, next-cut-instruction, next-doctype, next-other}
 use Rattle.search.specs.FirstPlace.{first-place}
+use Rattle.search.specs.Places.{place-from}
 use Rattle.search.specs.declared.places.Found.{Found}
 use Rattle.search.specs.declared.places.Found.the-variants.{Here, Nowhere}
 use Rattle.search.proofs.Finding.{places-found}
+use Rattle.search.proofs.Outside.{from-nowhere, from-here}
 use Rattle.search.proofs.Words.{word-fits}
 use Rattle.prolog.specs.declared.items.Item.{Item}
 use Rattle.prolog.specs.declared.items.Item.the-variants.{Declaration, Doctype, Other, CutOff, CutDoctype}
-use Rattle.prolog.specs.Answers.{placed-item, item-from, place-from, misc-end, begun}
-use Rattle.prolog.proofs.Ends.{from-nowhere, from-here, word-from}
+use Rattle.prolog.specs.Answers.{placed-item, item-from, misc-end, begun}
+use Rattle.prolog.proofs.Ends.{word-from}
 
 -- one sign of five
 pub target-signs : (b : ℕ) → eqb b 32 || eqb b 9 || eqb b 13 || eqb b 10 || eqb b 63 ≡ one-of " \t\r\n?" b

@@ -7,9 +7,7 @@ use Rattle.spec.specs.Grammar.Languages.{ascii}
 use Rattle.spec.specs.Reading.Prolog as Rule
 use Rattle.spec.specs.Reading.Prolog.{word-at, doctype-end, is-declaration, declared, docked}
 use Rattle.spec.specs.Reading.Readers.{starts}
-use Rattle.spec.specs.Reading.Scan.{Place, at, later}
-use Rattle.search.specs.declared.places.Found.{Found}
-use Rattle.scan.specs.Answers.{placed}
+use Rattle.spec.specs.Reading.Places.{Place, at, later}
 use Rattle.prolog.specs.declared.items.Item.{Item}
 use Rattle.prolog.specs.declared.items.Item.the-variants.{Declaration, Doctype, Other, CutOff, CutDoctype}
 
@@ -23,9 +21,6 @@ placed-item from (Rule.cut-doctype i) = CutDoctype (from + i)
 
 unfoldable pub item-from : (List ℕ → Rule.Item) → List ℕ → ℕ → Item
 item-from f s from = placed-item from (f (drop from s))
-
-unfoldable pub place-from : (List ℕ → Place) → List ℕ → ℕ → Found
-place-from f s from = placed (later from (f (drop from s)))
 
 -- A turn of the rule, in two parts. How far a comment or an instruction that begins the text goes; no byte, where neither does:
 unfoldable pub misc-end : List ℕ → Place

@@ -9,7 +9,8 @@ ghost use mathlib.Core.Path.{_≡_};
 ghost use lib.ListN.{drop};
 ghost use Rattle.spec.specs.Grammar.Languages.{one-of};
 ghost use Rattle.spec.specs.Reading.Prolog.{is-declaration, next-item};
-ghost use Rattle.prolog.specs.Answers.{place-from, item-from, placed-item, misc-end, begun};
+ghost use Rattle.search.specs.Places.{place-from};
+ghost use Rattle.prolog.specs.Answers.{item-from, placed-item, misc-end, begun};
 
 // An XML declaration or a DOCTYPE, by where the text between "<?" and "?>", or between "<!DOCTYPE" and '>', begins and ends; the place
 // where something else begins, or the bytes end; the place of a comment, instruction or declaration, or of a DOCTYPE, that does not end.

@@ -1,3 +1,2 @@
-pub mod Stops
 pub mod Passes
 pub mod Answering

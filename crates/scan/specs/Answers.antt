@@ -1,33 +1,20 @@
 -- The code's answers and the rule's, and what the scan promises. Assumes nothing: these are definitions.
 use mathlib.Core.Path.{_≡_}
-use mathlib.Core.Bool.{Bool, _||_}
 use mathlib.Core.List.{List}
 use Prim.Native.Nat.{ℕ, zero, suc}
-use lib.Dec.{eqb}
 use Rattle.spec.specs.Grammar.AppendixB.{appendix-B}
-use Rattle.spec.specs.Grammar.Languages.{one-of}
 use Rattle.spec.specs.Promises.{Cuts}
 use Rattle.spec.specs.Reading.Readers.{nothing}
 use Rattle.spec.specs.Reading.Source.{checked}
 use Rattle.spec.specs.Reading.Scan as Rule
-use Rattle.spec.specs.Reading.Scan.{Place, at, nowhere, Scan}
-use Rattle.search.specs.declared.places.Found.{Found}
-use Rattle.search.specs.declared.places.Found.the-variants.{Here, Nowhere}
+use Rattle.spec.specs.Reading.Scan.{Scan}
 use Rattle.scan.specs.declared.calls.Scanned.{Scanned}
 use Rattle.scan.specs.declared.calls.Scanned.the-variants.{NotOpened, NotClosed, Closed, Refused}
-
-abbrev pub placed : Place → Found
-placed (at i) = Here i
-placed nowhere = Nowhere
 
 abbrev pub scanned : Scan → Scanned
 scanned Rule.not-opened = NotOpened
 scanned Rule.not-closed = NotClosed
 scanned (Rule.closed k) = Closed k
-
--- what a pass looks at outside quotes: a quote mark, its sign, and another byte
-unfoldable pub stop : ℕ → ℕ → ℕ → Bool
-stop sign other b = one-of "\"'" b || eqb b sign || eqb b other
 
 -- the written rule on any bytes
 unfoldable pub admitted-answer : List ℕ → Scanned

@@ -1,10 +1,8 @@
 // checks.rs: the quick scan of a front part of a document, which says whether the DOCTYPE's internal subset has opened and closed.
 mod calls;
-mod quotes;
 mod subset;
 
 pub use calls::Scanned;
 pub use calls::scan;
 pub use calls::scan_admitted;
-pub use quotes::plain_end;
 pub use subset::internal_subset_end;

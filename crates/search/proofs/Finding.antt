@@ -10,12 +10,12 @@ use borrow.Author.Tests.{eq-eqb, ne-eqb}
 use mir.Syntax.{w64}
 use mir.Val.{Fits}
 use lib.Dec.{eqb}
-use lib.ListN.{length, getD, take, drop, length-append, length-drop}
-use lib.Seq.{length-take-le, drop-drop}
+use lib.ListN.{length, getD, take, drop, length-drop}
+use lib.Seq.{drop-drop}
 use Rattle.spec.specs.Basics.{pick}
 use Rattle.spec.specs.Reading.Readers.{run, starts, contains, before}
-use Rattle.spec.proofs.Agreement.Words.{found, before-le}
-use Rattle.spec.proofs.Base.Places.{drop-at, drop-end}
+use Rattle.spec.proofs.Agreement.Words.{before-within}
+use Rattle.spec.proofs.Base.Places.{drop-at, drop-end, take-rest}
 use Rattle.search.specs.Runs.{away, Skipped}
 use Rattle.search.specs.FirstPlace.{first-place, only}
 use Rattle.search.specs.declared.places.Found.{Found}
@@ -26,13 +26,6 @@ contains-some : (kw w : List ℕ) → contains kw w ≡ true → 0 < length w
 unfolding contains
 contains-some kw [] e = absurd (true≢false (sym e))
 contains-some kw (b ∷ w) e = omega arith
-
--- and it lies within it
-pub word-within : (kw w : List ℕ) → contains kw w ≡ true → before kw w + length kw ≤ length w
-word-within kw w c =
-    let (v, f) = found kw w c in
-    let l : length (take (before kw w) w) ≡ before kw w = length-take-le (before kw w) w (before-le kw w) in
-    omega (arith, simp length-append at (ap length f))
 
 -- the first place in w, where i is the place of w
 abbrev first-in : List ℕ → List ℕ → ℕ → Found
@@ -121,6 +114,16 @@ module _ (q : ℕ) (s : List ℕ) (i : ℕ) (W : Found) (inv : first-place (q �
   pub byte-not : (getD s i 0 ≡ q → ⊥) → first-place (q ∷ []) s (i + 1) ≡ W
   byte-not n = find-not (q ∷ []) s i W inv h false (unfold starts in rw (drop-at s i h, ne-eqb (getD s i 0) q n)) refl
 
+-- a word stands at its first place
+pub starts-first : (kw w : List ℕ) → contains kw w ≡ true → starts kw (drop (before kw w) w) ≡ true
+unfolding contains before
+starts-first kw [] c = absurd (true≢false (sym c))
+starts-first kw (b ∷ w) c = go (starts kw (b ∷ w)) refl c (starts-first kw w)
+  where
+    go : (t : Bool) → starts kw (b ∷ w) ≡ t → t || contains kw w ≡ true → (contains kw w ≡ true → starts kw (drop (before kw w) w) ≡ true) → starts kw (drop (pick t 0 (suc (before kw w))) (b ∷ w)) ≡ true
+    go true e c ih = e
+    go false e c ih = ih c
+
 -- What find answered: r.
 module _ (kw s : List ℕ) (at : ℕ) (r : Found) (a : r ≡ first-place kw s at) where
   pub was-nowhere : r ≡ Nowhere → contains kw (drop at s) ≡ false
@@ -142,7 +145,7 @@ module _ (kw s : List ℕ) (at : ℕ) (r : Found) (a : r ≡ first-place kw s at
 
     -- the word lies within the text, at `at` or further on
     lies : (at ≤ j) × (j + length kw ≤ length s)
-    lies = let (c, e) = was-here in (omega arith, omega (arith, length-drop at s, contains-some kw (drop at s) c, word-within kw (drop at s) c))
+    lies = let (c, e) = was-here in (omega arith, omega (arith, length-drop at s, contains-some kw (drop at s) c, before-within kw (drop at s) c))
 
     pub here-onward : at ≤ j
     here-onward = lies .0
@@ -152,6 +155,27 @@ module _ (kw s : List ℕ) (at : ℕ) (r : Found) (a : r ≡ first-place kw s at
 
     pub here-fits : (n : ℕ) → n ≡ length kw → length s < 2 ^ 64 → Fits w64 (j + n)
     here-fits n l h = omega (arith, lies)
+
+-- What find_byte answered of the rest of a text: r.
+module _ (kw s : List ℕ) (at : ℕ) (r : Found) (a : r ≡ first-place kw (take (length s - at) (drop at s)) 0) where
+  in-rest : r ≡ pick (contains kw (drop at s)) (Here (0 + before kw (drop at s))) Nowhere
+  unfolding first-place
+  in-rest = a ∙ (rw take-rest)
+
+  pub rest-nowhere : r ≡ Nowhere → Nowhere ≡ first-place kw s at
+  unfolding first-place
+  rest-nowhere b = rw (was-nowhere kw (drop at s) 0 r (unfold first-place in in-rest) b)
+
+  pub rest-here : (j : ℕ) → r ≡ Here j → Here (at + j) ≡ first-place kw s at
+  unfolding first-place
+  rest-here j b = let (c, e) = was-here kw (drop at s) 0 r (unfold first-place in in-rest) j b in ap Here (let z : at + j ≡ at + before kw (drop at s) = omega arith in z) ∙ (rw c)
+
+  pub rest-fits : (j : ℕ) → r ≡ Here j → length s < 2 ^ 64 → at < length s → Fits w64 (at + j)
+  rest-fits j b h k = omega (arith, here-within kw (drop at s) 0 r (unfold first-place in in-rest) j b, length-drop at s)
+
+pub rest-past : (a : ℕ) (kw s : List ℕ) (at : ℕ) → length s ≤ at → Nowhere ≡ first-place (a ∷ kw) s at
+unfolding first-place contains
+rest-past a kw s at h = rw (drop-end s at h)
 
 -- The word does not stand at i, as t says, and r is where its first byte stands next.
 module _ (kw s : List ℕ) (i : ℕ) (W : Found) (inv : first-place kw s i ≡ W) (h : i < length s) (t : Bool) (e : t ≡ starts kw (drop i s)) (f : t ≡ false) (a : ℕ) (g : a ≡ getD kw 0 0) (r : Found) (b : r ≡ first-place (a ∷ []) s (i + 1)) where
@@ -187,3 +211,6 @@ module _ (kw w : List ℕ) (r : Found) (a : r ≡ first-place kw w 0) where
 pub ruleset finding = (first-within, find-end, find-here, find-not, find-none, find-next, next-less, byte-far, byte-here, byte-not, has-yes, has-no, needs)
 
 pub ruleset places-found = (here-onward, here-within, here-fits)
+
+-- and what a search in the rest of a text searches
+pub ruleset rests = (rest-past, rest-nowhere, rest-here, rest-fits, needs)

@@ -2,21 +2,21 @@
 use crate::places::Found;
 ghost use mathlib.Core.Path.{_≡_};
 ghost use mathlib.Core.List.{[], _∷_};
-ghost use Rattle.search.specs.Runs.{Skipped};
+ghost use Rattle.search.specs.Runs.{Skipped, Block};
 ghost use Rattle.search.specs.FirstPlace.{first-place, only};
 
 // Few enough bytes that a literal has some blocks without its quote mark, and enough for vector code.
-const BLOCK: usize = 16;
+pub const BLOCK: usize = 16;
 
-// The place after a block without b, or `at`. No test ends the loop, so that it becomes vector code.
-fn past_block(s: &[u8], at: usize, b: u8) -> usize
-    ensures { λ r. ⌜ Skipped (only b) (now (s .entry)) at r ⌝ }
+// Whether a block begins at `at` that lacks b. No test ends the loop, so that it becomes vector code.
+pub fn block_lacks(s: &[u8], at: usize, b: u8) -> bool
+    ensures { λ r. ⌜ Block (only b) (now (s .entry)) at 16 r ⌝ }
 {
     if s.len() < BLOCK {
-        return at;
+        return false;
     }
     if s.len() - BLOCK < at {
-        return at;
+        return false;
     }
     let end = at + BLOCK;
     let mut found = false;
@@ -25,10 +25,7 @@ fn past_block(s: &[u8], at: usize, b: u8) -> usize
         found = found | (s[i] == b);
         i += 1;
     }
-    if found {
-        return at;
-    }
-    i
+    !found
 }
 
 // The place after all such blocks from `at` on.
@@ -36,12 +33,8 @@ fn past_blocks(s: &[u8], at: usize, b: u8) -> usize
     ensures { λ r. ⌜ Skipped (only b) (now (s .entry)) at r ⌝ }
 {
     let mut i = at;
-    while i < s.len() {
-        let end = past_block(s, i, b);
-        if end <= i {
-            return i;
-        }
-        i = end;
+    while block_lacks(s, i, b) {
+        i += BLOCK;
     }
     i
 }
@@ -58,4 +51,18 @@ pub fn find_byte(s: &[u8], at: usize, b: u8) -> Found
         i += 1;
     }
     Found::Nowhere
+}
+
+// The same, with the rest handed over as a part: whoever hands on a whole text copies it at each call.
+pub fn find_in_rest(s: &[u8], at: usize, b: u8) -> Found
+    ensures { λ r. ⌜ r ≡ first-place (b ∷ []) (now (s .entry)) at ⌝ }
+{
+    if s.len() <= at {
+        return Found::Nowhere;
+    }
+    let r = find_byte(&s[at..], 0, b);
+    let Found::Here(j) = r else {
+        return Found::Nowhere;
+    };
+    Found::Here(at + j)
 }

@@ -4,3 +4,4 @@ pub mod Places
 pub mod Results
 pub mod Loops
 pub mod Somes
+pub mod Outside

@@ -20,7 +20,8 @@ use Rattle.spec.specs.Reading.Dtd.{check-doctype}
 use Rattle.spec.specs.Reading.Prolog.{doctype, doctype-end, next-item}
 use Rattle.spec.specs.Reading.Readers.{ok, err, Reader, nothing}
 use Rattle.spec.specs.Reading.Refusals.{Refusal}
-use Rattle.spec.specs.Reading.Scan.{scan, at}
+use Rattle.spec.specs.Reading.Places.{at}
+use Rattle.spec.specs.Reading.Scan.{scan}
 use Rattle.spec.specs.Reading.Source.{checked}
 use Rattle.spec.specs.Reading.Stops.{passed, stopped, doctype-progress, stop-place}
 use Rattle.spec.specs.Reading.Wellformed.{check-chars, check-char-refs, check-text, check-attr-value, check-name}

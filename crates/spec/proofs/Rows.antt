@@ -13,6 +13,7 @@ use Rattle.spec.specs.Grammar.References.{digit-value, value-on}
 use Rattle.spec.specs.Grammar.AppendixB.{in-table, start-char, part-char, appendix-B}
 use Rattle.spec.specs.Grammar.Literals.{pubid-char}
 use Rattle.spec.specs.Reading.Utf8.{decode4, decode1}
+use Rattle.spec.specs.Reading.Places.{outside}
 use Rattle.spec.specs.Reading.Readers.{
   Reader,
   _>>_,
@@ -134,7 +135,7 @@ rows-computed : computed rows ≡ true
 unfolding
     in-table start-char part-char decode4 decode1 xml-char pubid-char digit-value value-on _>>_ nothing refuse at-end starts choose on word-of run while while-fuel
     some-left throughout required a-byte begins char contains before up-to utf8 admit checked reference char-ref ref-or-byte check-char-refs parts name check-name
-    skip-s require-s parse-quoted check-pubid parse-external-id check-att-value check-comment parse-comment take-decl-body reserved after connector connected group-of
+    skip-s require-s parse-quoted check-pubid parse-external-id check-att-value check-comment parse-comment outside take-decl-body reserved after connector connected group-of
     occurs bar-list word-among parse-default-decl on-quote second-literal nmtoken ncname parse-pe-reference has-pe-reference check-target check-pi parse-pi parse-mixed
     cp-of parse-group parse-children parse-contentspec parse-element-decl parse-att-type parse-att-def parse-attlist-decl ndata parse-entity-decl parse-notation-decl
     finish-decl parse-markup-decl subset-fuel parse-internal-subset check-doctype all-of is-version-num valued parse-eq-quoted pseudo-attr check-declaration

@@ -2,6 +2,7 @@
 pub mod Refusals
 pub mod Utf8
 pub mod Readers
+pub mod Places
 pub mod Source
 pub mod Wellformed
 pub mod Dtd

@@ -21,16 +21,16 @@ use Rattle.subset.specs.Kinds.{body-of}
 use Rattle.subset.specs.declared.declarations.Kind.{Kind}
 
 -- r is what take_decl_body gave: the body's end
-module _ (s : List ℕ) (at : ℕ) (r : Answer) (a : r ≡ read (take-decl-body 0) s at) (end : ℕ) (e : r ≡ At end) where
+module _ (s : List ℕ) (at : ℕ) (r : Answer) (a : r ≡ read take-decl-body s at) (end : ℕ) (e : r ≡ At end) where
   -- what the code's answer says: the body goes to its end
-  body : (take-decl-body 0 (drop at s) ≡ ok (end - at)) × (end ≡ at + (end - at))
+  body : (take-decl-body (drop at s) ≡ ok (end - at)) × (end ≡ at + (end - at))
   body =
-      let (k, (f, g)) = was-ok (take-decl-body 0) s at end r a e in
+      let (k, (f, g)) = was-ok take-decl-body s at end r a e in
       let z : k ≡ end - at = omega arith in
       (f ∙ ap ok z, omega arith)
 
   body-in : end < length s
-  body-in = omega (arith, body .1, length-drop at s, body-within 0 (end - at) (drop at s) (body .0))
+  body-in = omega (arith, body .1, length-drop at s, body-within (end - at) (drop at s) (body .0))
 
   pub body-from : at ≤ end
   body-from = omega (arith, body .1)
@@ -41,10 +41,10 @@ module _ (s : List ℕ) (at : ℕ) (r : Answer) (a : r ≡ read (take-decl-body 
   pub finish-fits : length s < 2 ^ 64 → Fits w64 (end + 1)
   finish-fits l = let h = body-in in omega arith
 
-module _ (D : Dialect) (B : Reader) (pe : Bool) (s : List ℕ) (at : ℕ) (r : Answer) (a : r ≡ read (take-decl-body 0) s at) where
+module _ (D : Dialect) (B : Reader) (pe : Bool) (s : List ℕ) (at : ℕ) (r : Answer) (a : r ≡ read take-decl-body s at) where
   pub finish-no : (n : ℕ) → r ≡ No n → r ≡ read (finish-decl D pe B) s at
   unfolding read finish-decl
-  finish-no n e = let (m, (f, g)) = was-err (take-decl-body 0) s at n r a e in g ∙ (rw f)
+  finish-no n e = let (m, (f, g)) = was-err take-decl-body s at n r a e in g ∙ (rw f)
 
   module _ (end : ℕ) (e : r ≡ At end) where
     -- what is answered after the body, by whether it is read

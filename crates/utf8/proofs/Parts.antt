@@ -7,12 +7,13 @@ use Prim.Native.Nat.{ℕ, _+_, _-_, _<_, _≤_}
 use native.Mathlib.Omega.{arith}
 use borrow.Author.Needs.{needs}
 use lib.Dec.{leb}
-use lib.ListN.{length, getD, take, drop, length-drop, take-append-drop}
-use lib.Seq.{take-all, drop-drop, drop-append-seam}
+use lib.ListN.{length, getD, take, drop, take-append-drop}
+use lib.Seq.{drop-drop, drop-append-seam}
 use Rattle.spec.specs.Grammar.Utf8.{scalar, encode}
 use Rattle.spec.specs.Grammar.Languages.{Ch, Star, end, more, any}
 use Rattle.spec.specs.Grammar.Characters.{Text}
 use Rattle.spec.specs.Reading.Source.{utf8}
+use Rattle.spec.proofs.Base.Places.{take-rest}
 use Rattle.spec.proofs.Base.Tests.{T→true}
 use Rattle.spec.proofs.Characters.Utf8.{decode-encode}
 use Rattle.spec.proofs.Characters.Valid.{utf8-cases}
@@ -44,9 +45,6 @@ part-passed s i j h e =
     ap (λ (x : List ℕ). accepts (utf8 x)) (sym d)
     ∙ sym (after-valid (take (j - i) (drop i s)) (drop (j - i) (drop i s)) e)
     ∙ ap (λ (x : List ℕ). accepts (utf8 x)) (take-append-drop (j - i) (drop i s))
-
-take-rest : (s : List ℕ) (i : ℕ) → take (length s - i) (drop i s) ≡ drop i s
-take-rest s i = take-all (length s - i) (drop i s) (omega (arith, length-drop i s))
 
 -- some blocks were passed
 pub passed-none : (s : List ℕ) (at : ℕ) → Passed s at at

@@ -1,12 +1,15 @@
 -- Bytes and places in a text. Assumes nothing.
+use mathlib.Core.Bool.{Bool, true, false}
 use mathlib.Core.List.{List, [], _∷_}
 use mathlib.Core.Path.{_≡_, sym, _∙_}
-use Prim.Native.Nat.{ℕ, zero, suc, _+_, _<_, _≤_}
+use Prim.Native.Nat.{ℕ, zero, suc, _+_, _-_, _<_, _≤_}
 use native.Mathlib.Nat.{add-zero}
 use native.Mathlib.Numerals.{add-one}
 use native.Mathlib.Omega.{arith}
-use lib.ListN.{length, getD, drop, drop-of-length-le, List·getD-eq-default}
-use lib.Seq.{drop-cons, getD-drop}
+use lib.ListN.{length, getD, take, drop, length-drop, drop-of-length-le, List·getD-eq-default}
+use lib.Seq.{take-all, drop-cons, getD-drop}
+use Rattle.spec.specs.Basics.{pick}
+use Rattle.spec.specs.Reading.Readers.{run}
 
 -- the byte at i, and what follows it
 pub drop-at : (s : List ℕ) (i : ℕ) → i < length s → drop i s ≡ getD s i 0 ∷ drop (i + 1) s
@@ -29,3 +32,17 @@ byte-in (x ∷ s) (suc i) b e n = let h = byte-in s i b e n in omega arith
 -- the first byte of what is left
 pub front-at : (s : List ℕ) (at : ℕ) → getD (drop at s) 0 0 ≡ getD s at 0
 front-at s at = getD-drop at s 0 0 ∙ (rw add-zero)
+
+-- a run lies within the text
+pub run-within : (p : ℕ → Bool) (w : List ℕ) → run p w ≤ length w
+unfolding run
+run-within p [] = omega arith
+run-within p (b ∷ w) = go (p b) (run-within p w)
+  where
+    go : (t : Bool) → run p w ≤ length w → pick t (suc (run p w)) 0 ≤ suc (length w)
+    go true h = omega arith
+    go false h = omega arith
+
+-- the part of a text from i on, as code cuts it
+pub take-rest : (s : List ℕ) (i : ℕ) → take (length s - i) (drop i s) ≡ drop i s
+take-rest s i = take-all (length s - i) (drop i s) (omega (arith, length-drop i s))

@@ -18,11 +18,13 @@ use Rattle.spec.specs.Grammar.Names.{Dialect, PEReference}
 use Rattle.spec.specs.Premise.{quiet, bare, premised}
 use Rattle.spec.specs.Reading.Dtd.{has-pe-reference}
 use Rattle.spec.specs.Reading.Readers.{starts, contains, before}
-use Rattle.spec.specs.Reading.Scan.{Place, at, nowhere, later, subset-open, subset-end}
+use Rattle.spec.specs.Reading.Places.{Place, at, nowhere, later, outside}
+use Rattle.spec.specs.Reading.Scan.{subset-open, subset-end}
 use Rattle.spec.proofs.Agreement.Holds.{starts-cut}
 use Rattle.spec.proofs.Agreement.Tame.{Tame, Within, plain-bytes, within-cat, within-either, within-lit, within-none, within-s, within-s?, within-name, within-element, every-plain}
 use Rattle.spec.proofs.Agreement.Words.{contains-at}
-use Rattle.spec.proofs.Base.Tests.{T→true, eqb-yes, eqb-no, and-right, none-sub, not-true, and-left, both-left, both-right}
+use Rattle.spec.proofs.Base.Outside.{later-suc, later-later, later-zero}
+use Rattle.spec.proofs.Base.Tests.{T→true, eqb-yes, eqb-no, and-right, all-among, none-sub, not-true, and-left, both-left, both-right}
 use Rattle.spec.proofs.Characters.Bytes.{all-high, high-head, high-tail, avoids, class-avoids, avoids-head, avoids-tail, Sized, low, high, sized}
 use Rattle.spec.proofs.Characters.Text.{between}
 use Rattle.spec.proofs.Division.Parts.{Filling, last, next, Premise}
@@ -31,18 +33,6 @@ use Rattle.spec.proofs.Dtd.Bodies.{del, delimited-del, refers-complete}
 use Rattle.spec.proofs.Dtd.Comments.{twice, first-close, Shaped, shape}
 use Rattle.spec.proofs.Dtd.Tame.{within-external, within-attlist, within-entity, within-notation}
 use Rattle.spec.proofs.Wellformed.Names.{AsciiNames}
-
-pub later-suc : (n : ℕ) (p : Place) → later 1 (later n p) ≡ later (suc n) p
-later-suc n (at i) = let e : 1 + (n + i) ≡ suc n + i = omega arith in ap at e
-later-suc n nowhere = refl
-
-pub later-later : (m n : ℕ) (p : Place) → later m (later n p) ≡ later (m + n) p
-later-later m n (at i) = let e : m + (n + i) ≡ m + n + i = omega arith in ap at e
-later-later m n nowhere = refl
-
-pub later-zero : (p : Place) → p ≡ later 0 p
-later-zero (at i) = let e : i ≡ 0 + i = omega arith in ap at e
-later-zero nowhere = refl
 
 abbrev pub Clear : (List ℕ → Place) → List ℕ → Type 0
 Clear f x = (r : List ℕ) → f (x ++ r) ≡ later (length x) (f r)
@@ -106,13 +96,14 @@ module _ {f : ℕ → List ℕ → Place} (P : Quoting f) where
       item (inl c) = clear-ch u c
       item (inr l) = clear-literal u l
 
-pub open-quoting : Quoting subset-open
-unfolding subset-open
-open-quoting = record {
+-- the search for one of some signs, none of which is a quote mark
+pub outside-quoting : (s : String) → one-of s 34 ≡ false → one-of s 39 ≡ false → T (all-among (ascii s) (ascii "\"'<>[]")) → Quoting (outside (one-of s))
+unfolding outside
+outside-quoting s d e h = record {
   inside = λ q b w. refl;
-  double = λ w. refl;
-  single = λ w. refl;
-  plain = λ b w n. rw (none-sub (ascii "[") (ascii "\"'<>[]") tt b n, none-sub (ascii "\"'") (ascii "\"'<>[]") tt b n);
+  double = λ w. rw d;
+  single = λ w. rw e;
+  plain = λ b w n. rw (none-sub (ascii s) (ascii "\"'<>[]") h b n, none-sub (ascii "\"'") (ascii "\"'<>[]") tt b n);
 }
 
 pub end-quoting : Quoting (subset-end 0)
@@ -276,5 +267,5 @@ module _ (D : Dialect) (A : AsciiNames D) where
   pub within-front : Within (Front D)
   within-front = within-cat within-s? (within-cat (within-name D A) (within-cat (within-either (within-cat within-s within-external) within-none) within-s?))
 
-  pub clear-front : (w : List ℕ) → Front D w → Clear (subset-open 0) w
-  clear-front w l = clear-tame open-quoting (within-front w l)
+  pub clear-front : (w : List ℕ) → Front D w → Clear subset-open w
+  clear-front w l = clear-tame (outside-quoting "[" refl refl tt) (within-front w l)

@@ -11,8 +11,10 @@ use lib.Seq.{take-nil}
 use Rattle.spec.specs.Basics.{pick}
 use Rattle.spec.specs.Grammar.Languages.{ascii, one-of}
 use Rattle.spec.specs.Reading.Readers.{starts, contains, before}
-use Rattle.spec.specs.Reading.Scan.{Place, at, nowhere, later, subset-open, subset-end}
+use Rattle.spec.specs.Reading.Places.{Place, at, nowhere, later, outside}
+use Rattle.spec.specs.Reading.Scan.{subset-end}
 use Rattle.spec.proofs.Agreement.Words.{starts-split, before-within}
+use Rattle.spec.proofs.Base.Outside.{nowhere-at, at-inj}
 use Rattle.spec.proofs.Base.Tests.{decide, leb-yes, leb-no, leb-true, leb-false, and-left, and-right, or-false-left, or-false-right, no→false, T→true}
 
 -- a place, if it is one of the first k
@@ -30,29 +32,23 @@ cut-later k (at i) =
     ⊎-elim (λ e. let h : i < k = leb-true (suc i) k e in rw (e, leb-yes (suc (1 + i)) (suc k) (omega arith)))
     (λ e. let h : k < suc i = leb-false (suc i) k e in rw (e, leb-no (suc (1 + i)) (suc k) (omega arith))) (decide (ltb i k))
 
-pub nowhere-at : (i : ℕ) → nowhere ≡ at i → ⊥
-nowhere-at i e = let z : _≡_ {A = ℕ} 0 1 = cc in omega arith
-
-pub at-inj : (i j : ℕ) → at i ≡ at j → i ≡ j
-at-inj i j e = cc
-
 -- a later place is cut off
 cut-late : (k : ℕ) (p : Place) → ((i : ℕ) → p ≡ at i → k ≤ i) → cut-off k p ≡ nowhere
 cut-late k nowhere h = refl
 cut-late k (at i) h = let g : k ≤ i = h i refl in rw (leb-no (suc i) k (omega arith))
 
--- the first part of the scan
-pub open-cut : (q k : ℕ) (w : List ℕ) → subset-open q (take k w) ≡ cut-off k (subset-open q w)
-unfolding subset-open
-open-cut q zero w = sym (cut-zero (subset-open q w))
-open-cut q (suc k) [] = refl
-open-cut zero (suc k) (b ∷ w) = go (one-of "[" b) (open-cut (pick (one-of "\"'" b) b 0) k w)
+-- the first byte of a class outside quotes, of which the first part of the scan is one
+pub outside-cut : (p : ℕ → Bool) (q k : ℕ) (w : List ℕ) → outside p q (take k w) ≡ cut-off k (outside p q w)
+unfolding outside
+outside-cut p q zero w = sym (cut-zero (outside p q w))
+outside-cut p q (suc k) [] = refl
+outside-cut p zero (suc k) (b ∷ w) = go (p b) (outside-cut p (pick (one-of "\"'" b) b 0) k w)
   where
-    go : (t : Bool) → subset-open (pick (one-of "\"'" b) b 0) (take k w) ≡ cut-off k (subset-open (pick (one-of "\"'" b) b 0) w)
-        → pick t (at 0) (later 1 (subset-open (pick (one-of "\"'" b) b 0) (take k w))) ≡ cut-off (suc k) (pick t (at 0) (later 1 (subset-open (pick (one-of "\"'" b) b 0) w)))
+    go : (t : Bool) → outside p (pick (one-of "\"'" b) b 0) (take k w) ≡ cut-off k (outside p (pick (one-of "\"'" b) b 0) w)
+        → pick t (at 0) (later 1 (outside p (pick (one-of "\"'" b) b 0) (take k w))) ≡ cut-off (suc k) (pick t (at 0) (later 1 (outside p (pick (one-of "\"'" b) b 0) w)))
     go true e = rw (leb-yes 1 (suc k) (omega arith))
-    go false e = ap (later 1) e ∙ cut-later k (subset-open (pick (one-of "\"'" b) b 0) w)
-open-cut (suc q) (suc k) (b ∷ w) = ap (later 1) (open-cut (pick (eqb b (suc q)) 0 (suc q)) k w) ∙ cut-later k (subset-open (pick (eqb b (suc q)) 0 (suc q)) w)
+    go false e = ap (later 1) e ∙ cut-later k (outside p (pick (one-of "\"'" b) b 0) w)
+outside-cut p (suc q) (suc k) (b ∷ w) = ap (later 1) (outside-cut p (pick (eqb b (suc q)) 0 (suc q)) k w) ∙ cut-later k (outside p (pick (eqb b (suc q)) 0 (suc q)) w)
 
 -- a word in a front part, and in the whole
 starts-front : (p : List ℕ) (k : ℕ) (w : List ℕ) → starts p (take k w) ≡ true → starts p w ≡ true
@@ -163,9 +159,9 @@ in-comment (suc (suc (suc k))) v ih = go (contains (ascii "-->") (take k v)) ref
         og (inl f) = let x : k < before (ascii "-->") v + 3 = contains-late 45 (45 ∷ 62 ∷ []) k v f e in comment-late (suc (suc (suc (suc k)))) v (omega arith)
         og (inr f) = rw f
 
-outside : (b k : ℕ) (w : List ℕ) → Cut-at w → subset-end 0 0 (b ∷ take k w) ≡ cut-off (suc k) (subset-end 0 0 (b ∷ w))
+not-quoted : (b k : ℕ) (w : List ℕ) → Cut-at w → subset-end 0 0 (b ∷ take k w) ≡ cut-off (suc k) (subset-end 0 0 (b ∷ w))
 unfolding subset-end
-outside b k w ih = by-close (one-of "]" b)
+not-quoted b k w ih = by-close (one-of "]" b)
   where
     by-mark : (t : Bool) → starts (ascii "<!--") (b ∷ w) ≡ t → pick (starts (ascii "<!--") (b ∷ take k w)) (comment-at (take k w)) (plain-at b (take k w)) ≡ cut-off (suc k) (pick t (comment-at w) (plain-at b w))
     by-mark false e = og (starts (ascii "<!--") (b ∷ take k w)) refl
@@ -196,4 +192,4 @@ end-cut [] s q k = ap (subset-end s q) (take-nil k)
 end-cut (b ∷ w) s q zero = sym (cut-zero (subset-end s q (b ∷ w)))
 end-cut (b ∷ w) (suc s) q (suc k) = ap (later 1) (end-cut w s q k) ∙ cut-later k (subset-end s q w)
 end-cut (b ∷ w) zero (suc q) (suc k) = ap (later 1) (end-cut w 0 (pick (eqb b (suc q)) 0 (suc q)) k) ∙ cut-later k (subset-end 0 (pick (eqb b (suc q)) 0 (suc q)) w)
-end-cut (b ∷ w) zero zero (suc k) = outside b k w (λ s q k. end-cut w s q k)
+end-cut (b ∷ w) zero zero (suc k) = not-quoted b k w (λ s q k. end-cut w s q k)

@@ -20,7 +20,8 @@ use Rattle.spec.specs.Grammar.Languages.{Lang, lit, ascii, _·_, _∣_, 
 use Rattle.spec.specs.Grammar.Names.{Dialect, PEReference}
 use Rattle.spec.specs.Reading.Dtd.{skip-s, parse-pe-reference, parse-markup-decl}
 use Rattle.spec.specs.Reading.Readers.{ok, Reader, starts, on, past}
-use Rattle.spec.specs.Reading.Scan.{at, subset-open}
+use Rattle.spec.specs.Reading.Places.{at, outside}
+use Rattle.spec.specs.Reading.Scan.{subset-open}
 use Rattle.spec.proofs.Agreement.Algebra.{_then_, cat₂, assoc}
 use Rattle.spec.proofs.Agreement.Choices.{on-begun}
 use Rattle.spec.proofs.Agreement.Reads.{Reads, Next, _≅_}
@@ -30,7 +31,7 @@ use Rattle.spec.proofs.Agreement.Words.{first-of, starts-lit}
 use Rattle.spec.proofs.Base.Results.{ok-inj}
 use Rattle.spec.proofs.Division.Clear.{clear-front}
 use Rattle.spec.proofs.Division.Divide.{kind-at}
-use Rattle.spec.proofs.Division.FrontParts.{at-inj}
+use Rattle.spec.proofs.Base.Outside.{at-inj}
 use Rattle.spec.proofs.Division.Parts.{Filling, last, next, entries, Parts, Divided-parts, One-parts}
 use Rattle.spec.proofs.Division.Scans.{found-after}
 use Rattle.spec.proofs.Dtd.Markup.{markup-reads}
@@ -138,7 +139,7 @@ module _ (D : Dialect) (A : AsciiNames D) where
       )
 
   pub one-parts : One-parts D
-  unfolding subset-open
+  unfolding outside
   one-parts w a b =
       let o : length (a .front) ≡ length (b .front) = at-inj (length (a .front)) (length (b .front)) (sym (opened a) ∙ opened b) in
       let (f, r) = same-length (a .front) (b .front) _ _ o (sym (a .split) ∙ b .split) in
@@ -146,8 +147,8 @@ module _ (D : Dialect) (A : AsciiNames D) where
       let (es, xy) = same-filling (a .fills) (b .fills) (suc (length (a .front))) (a .back) (b .back) refl i in
       (es ∙ ap (λ (n : ℕ). entries D (suc n) (b .fills)) o, o, (λ j. suc (o j) + length (xy j)))
     where
-      opened : (d : Parts D w) → subset-open 0 w ≡ at (length (d .front))
-      opened d = ap (subset-open 0) (d .split) ∙ found-after (subset-open 0) (d .front) (91 ∷ (d .inner ++ (93 ∷ d .back))) (clear-front D A (d .front) (d .heads)) refl
+      opened : (d : Parts D w) → subset-open w ≡ at (length (d .front))
+      opened d = ap subset-open (d .split) ∙ found-after subset-open (d .front) (91 ∷ (d .inner ++ (93 ∷ d .back))) (clear-front D A (d .front) (d .heads)) refl
 
   -- what W3C's text derives, divided; and the other way round
   to-filling : {pe : Bool} {w : List ℕ} → Items D (markupdecl D) pe w → Filling D pe w

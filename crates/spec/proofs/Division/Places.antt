@@ -14,11 +14,12 @@ use Rattle.spec.specs.Grammar.Names.{Dialect}
 use Rattle.spec.specs.Premise.{promised, bare, premised, premise}
 use Rattle.spec.specs.Reading.Readers.{past}
 use Rattle.spec.specs.Grammar.Doctype.{doctypedecl}
+use Rattle.spec.specs.Reading.Places.{outside}
 use Rattle.spec.specs.Reading.Scan.{scan, subset-open}
 use Rattle.spec.proofs.Division.Clear.{clear-front}
 use Rattle.spec.proofs.Division.Divide.{divide}
 use Rattle.spec.proofs.Division.Divides.{parts-read}
-use Rattle.spec.proofs.Division.FrontParts.{nowhere-at}
+use Rattle.spec.proofs.Base.Outside.{nowhere-at}
 use Rattle.spec.proofs.Division.Parting.{divided-parts, one-parts}
 use Rattle.spec.proofs.Division.Parts.{Filling, last, next, entries, Parts, open-at, close-at, list-of, Premise, Cuts-parts}
 use Rattle.spec.proofs.Division.Quoting.{quoting}
@@ -204,12 +205,12 @@ module _ (D : Dialect) (A : AsciiNames D) where
   )
 
   pub apart : (w : List ℕ) → Front D w → Division D w → ⊥
-  unfolding subset-open
+  unfolding outside
   apart w f v =
       let d : Parts D w = parts-of v .parts in
       nowhere-at (length (d .front))
-      (sym (found-none (subset-open 0) w (clear-front D A w f) refl)
-      ∙ ap (subset-open 0) (d .split) ∙ found-after (subset-open 0) (d .front) (91 ∷ (d .inner ++ (93 ∷ d .back))) (clear-front D A (d .front) (d .heads)) refl)
+      (sym (found-none subset-open w (clear-front D A w f) refl)
+      ∙ ap subset-open (d .split) ∙ found-after subset-open (d .front) (91 ∷ (d .inner ++ (93 ∷ d .back))) (clear-front D A (d .front) (d .heads)) refl)
 
   pub one-division : (w : List ℕ) (a b : Division D w) → (a .entries ≡ b .entries) × (a .opening ≡ b .opening) × (a .closing ≡ b .closing)
   one-division w u v =

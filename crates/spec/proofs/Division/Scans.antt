@@ -12,10 +12,12 @@ use Rattle.spec.specs.Basics.{pick}
 use Rattle.spec.specs.Grammar.Division.{Front, Kind, element, attlist, entity, notation, instruction, comment, reference}
 use Rattle.spec.specs.Grammar.Names.{Dialect}
 use Rattle.spec.specs.Premise.{bare, premised, promised, quiet}
-use Rattle.spec.specs.Reading.Scan.{Place, at, nowhere, later, subset-open, subset-end, not-opened, not-closed, closed, scan, scan-from, scan-after}
+use Rattle.spec.specs.Grammar.Languages.{one-of}
+use Rattle.spec.specs.Reading.Places.{Place, at, nowhere, later, outside}
+use Rattle.spec.specs.Reading.Scan.{subset-open, subset-end, not-opened, not-closed, closed, scan, scan-from, scan-after}
 use Rattle.spec.proofs.Base.Tests.{T→true, true→T, decide, leb-yes, leb-no, leb-true, leb-false, both, both-left, both-right}
 use Rattle.spec.proofs.Division.Clear.{Clear, clear-front, clear-filling, bare-quoting}
-use Rattle.spec.proofs.Division.FrontParts.{cut-off, open-cut, end-cut}
+use Rattle.spec.proofs.Division.FrontParts.{cut-off, outside-cut, end-cut}
 use Rattle.spec.proofs.Division.Parts.{Filling, last, next, Premise, Cuts-parts}
 use Rattle.spec.proofs.Division.Quoting.{quoting, paired}
 use Rattle.spec.proofs.Wellformed.Names.{AsciiNames}
@@ -28,7 +30,7 @@ pub found-none : (f : List ℕ → Place) (x : List ℕ) → Clear f x → f [] 
 found-none f x c e = ap f (sym (append-nil x)) ∙ c [] ∙ ap (later (length x)) e
 
 -- a text x [ y, scanned up to a cut, where the first part finds the [ and the second finds a ] after j bytes
-cut-scan : (x y : List ℕ) (j cut : ℕ) → subset-open 0 (x ++ 91 ∷ y) ≡ at (length x) → subset-end 0 0 y ≡ at j
+cut-scan : (x y : List ℕ) (j cut : ℕ) → subset-open (x ++ 91 ∷ y) ≡ at (length x) → subset-end 0 0 y ≡ at j
     → scan (take cut (x ++ 91 ∷ y)) ≡ promised (length x) (suc (length x) + j) cut
 unfolding scan
 cut-scan x y j cut o c = go (decide (leb cut (length x)))
@@ -36,8 +38,8 @@ cut-scan x y j cut o c = go (decide (leb cut (length x)))
     w : List ℕ
     w = x ++ 91 ∷ y
 
-    opened : subset-open 0 (take cut w) ≡ cut-off cut (at (length x))
-    opened = open-cut 0 cut w ∙ ap (cut-off cut) o
+    opened : subset-open (take cut w) ≡ cut-off cut (at (length x))
+    opened = outside-cut (one-of "[") 0 cut w ∙ ap (cut-off cut) o
 
     rest : (k : ℕ) → suc (length x) + k ≡ cut → drop (suc (length x)) (take cut w) ≡ take k y
     rest k e =
@@ -54,7 +56,7 @@ cut-scan x y j cut o c = go (decide (leb cut (length x)))
     by-close k e (inl t) = let h : j < k = leb-true (suc j) k t in rw (t, leb-no cut (suc (length x) + j) (omega arith))
     by-close k e (inr t) = let h : k < suc j = leb-false (suc j) k t in rw (t, leb-yes cut (suc (length x) + j) (omega arith))
 
-    go : (leb cut (length x) ≡ true) ⊎ (leb cut (length x) ≡ false) → scan-from (take cut w) (subset-open 0 (take cut w)) ≡ promised (length x) (suc (length x) + j) cut
+    go : (leb cut (length x) ≡ true) ⊎ (leb cut (length x) ≡ false) → scan-from (take cut w) (subset-open (take cut w)) ≡ promised (length x) (suc (length x) + j) cut
     go (inl t) =
         let h : cut ≤ length x = leb-true cut (length x) t in
         rw (t, opened, leb-no (suc (length x)) cut (omega arith))
@@ -74,7 +76,7 @@ module _ (D : Dialect) (A : AsciiNames D) where
   cuts-parts-quoting w d h cut =
       ap (λ (z : List ℕ). scan (take cut z)) (d .split)
       ∙ cut-scan (d .front) (d .inner ++ (93 ∷ d .back)) (length (d .inner)) cut
-      (found-after (subset-open 0) (d .front) (91 ∷ (d .inner ++ (93 ∷ d .back))) (clear-front D A (d .front) (d .heads)) (unfold subset-open in refl))
+      (found-after subset-open (d .front) (91 ∷ (d .inner ++ (93 ∷ d .back))) (clear-front D A (d .front) (d .heads)) (unfold outside in refl))
       (found-after (subset-end 0 0) (d .inner) (93 ∷ d .back) (clear-filling D A (d .fills) h) (unfold subset-end in refl))
 
   -- with demand 3's own premise
@@ -97,6 +99,6 @@ module _ (D : Dialect) (A : AsciiNames D) where
 
   -- a text without a subset
   pub cuts-without : (w : List ℕ) → Front D w → (cut : ℕ) → scan (take cut w) ≡ not-opened
-  unfolding scan subset-open
+  unfolding scan outside
   cuts-without w l cut =
-      ap (scan-from (take cut w)) (open-cut 0 cut w ∙ ap (cut-off cut) (found-none (subset-open 0) w (clear-front D A w l) refl))
+      ap (scan-from (take cut w)) (outside-cut (one-of "[") 0 cut w ∙ ap (cut-off cut) (found-none subset-open w (clear-front D A w l) refl))

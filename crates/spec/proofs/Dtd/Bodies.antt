@@ -16,14 +16,16 @@ use Rattle.spec.specs.Grammar.Languages.{Lang, lit, ascii, Ch, _·_, _�
 use Rattle.spec.specs.Grammar.Literals.{SystemLiteral}
 use Rattle.spec.specs.Grammar.Names.{Dialect}
 use Rattle.spec.specs.Grammar.Utf8.{scalar, encode}
-use Rattle.spec.specs.Reading.Dtd.{take-decl-body, has-pe-reference, finish-decl}
-use Rattle.spec.specs.Reading.Readers.{ok, Reader, on-ok, nothing, begins, of-point, past}
+use Rattle.spec.specs.Reading.Dtd.{bytes-before, take-decl-body, has-pe-reference, finish-decl}
+use Rattle.spec.specs.Reading.Places.{Place, at, nowhere, later, outside}
+use Rattle.spec.specs.Reading.Readers.{ok, Reader, on-ok, nothing, begins, of-point}
 use Rattle.spec.specs.Reading.Refusals.{unterminated}
 use Rattle.spec.specs.Reading.Utf8.{decode1, Point, point, no-point}
 use Rattle.spec.proofs.Agreement.Chars.{begins-ch}
 use Rattle.spec.proofs.Agreement.Reads.{Took, Reads, Next}
 use Rattle.spec.proofs.Agreement.Whole.{Whole}
-use Rattle.spec.proofs.Base.Results.{err-ok, ok-inj, on-ok-ok, past-ok, one-add}
+use Rattle.spec.proofs.Base.Outside.{nowhere-at, at-inj, later-at}
+use Rattle.spec.proofs.Base.Results.{err-ok, ok-inj, on-ok-ok, one-add}
 use Rattle.spec.proofs.Base.Tests.{true→T, eqb-yes, eqb-true, eqb-no, or-cases, and-left, and-right, one-sign, two-signs, none-sub, not-true, T→true, or-false-left, or-false-right}
 use Rattle.spec.proofs.Characters.Bytes.{all-high, high-head, high-tail, avoids, avoids-append, avoids-high, class-avoids, avoids-class, text-front, not-one, avoids-head, avoids-tail, Sized, low, high, sized}
 use Rattle.spec.proofs.Characters.Text.{text-rest, ascii-text, star-one, reclass, put, between}
@@ -36,38 +38,57 @@ del (suc q) [] = false
 del zero (b ∷ u) = not (one-of ">" b) && del (pick (one-of "\"'" b) b 0) u
 del (suc q) (b ∷ u) = del (pick (eqb b (suc q)) 0 (suc q)) u
 
-pub record Ended (q k : ℕ) (w : List ℕ) : Type 0 where
+record Ended (q k : ℕ) (w : List ℕ) : Type 0 where
   pub body : List ℕ
   pub rest : List ℕ
   pub split : w ≡ body ++ 62 ∷ rest
   pub size : length body ≡ k
   pub good : del q body ≡ true
 
-one-more : (q p k b : ℕ) (w : List ℕ) → ((u : List ℕ) → del q (b ∷ u) ≡ del p u) → ((j : ℕ) → take-decl-body p w ≡ ok j → Ended p j w) → past 1 (take-decl-body p w) ≡ ok k → Ended q k (b ∷ w)
+abbrev to-sign : ℕ → List ℕ → Place
+to-sign = outside (one-of ">")
+
+one-more : (q p k b : ℕ) (w : List ℕ) → ((u : List ℕ) → del q (b ∷ u) ≡ del p u) → ((j : ℕ) → to-sign p w ≡ at j → Ended p j w) → later 1 (to-sign p w) ≡ at k → Ended q k (b ∷ w)
 one-more q p k b w same ih e =
-    let (j, f, l) = past-ok 1 k (take-decl-body p w) e in
+    let (j, f, l) = later-at 1 k (to-sign p w) e in
     let t : Ended p j w = ih j f in
     let m : length (t .body) ≡ j = t .size in
     record { body = b ∷ t .body; rest = t .rest; split = ap (λ (x : List ℕ). b ∷ x) (t .split); size = omega arith; good = same (t .body) ∙ t .good }
 
-pub body-ended : (q k : ℕ) (w : List ℕ) → take-decl-body q w ≡ ok k → Ended q k w
-unfolding take-decl-body del
-body-ended q k [] e = absurd (err-ok unterminated k e)
-body-ended zero k (b ∷ w) e = go (one-of ">" b) refl e (λ p j. body-ended p j w)
+sign-ended : (q k : ℕ) (w : List ℕ) → to-sign q w ≡ at k → Ended q k w
+unfolding outside del
+sign-ended q k [] e = absurd (nowhere-at k e)
+sign-ended zero k (b ∷ w) e = go (one-of ">" b) refl e (λ p j. sign-ended p j w)
   where
-    go : (t : Bool) → one-of ">" b ≡ t → pick t (ok 0) (past 1 (take-decl-body (pick (one-of "\"'" b) b 0) w)) ≡ ok k → ((p j : ℕ) → take-decl-body p w ≡ ok j → Ended p j w) → Ended zero k (b ∷ w)
-    go true f g ih = record { body = []; rest = w; split = ap (λ (x : ℕ). x ∷ w) (one-sign 62 b f); size = ok-inj 0 k g; good = refl }
+    go : (t : Bool) → one-of ">" b ≡ t → pick t (at 0) (later 1 (to-sign (pick (one-of "\"'" b) b 0) w)) ≡ at k → ((p j : ℕ) → to-sign p w ≡ at j → Ended p j w) → Ended zero k (b ∷ w)
+    go true f g ih = record { body = []; rest = w; split = ap (λ (x : ℕ). x ∷ w) (one-sign 62 b f); size = at-inj 0 k g; good = refl }
     go false f g ih = one-more zero (pick (one-of "\"'" b) b 0) k b w (λ u. ap (λ (t : Bool). not t && del (pick (one-of "\"'" b) b 0) u) f) (ih (pick (one-of "\"'" b) b 0)) g
-body-ended (suc q) k (b ∷ w) e = one-more (suc q) (pick (eqb b (suc q)) 0 (suc q)) k b w (λ u. refl) (λ j. body-ended (pick (eqb b (suc q)) 0 (suc q)) j w) e
+sign-ended (suc q) k (b ∷ w) e = one-more (suc q) (pick (eqb b (suc q)) 0 (suc q)) k b w (λ u. refl) (λ j. sign-ended (pick (eqb b (suc q)) 0 (suc q)) j w) e
 
-body-ends : (q : ℕ) (u v : List ℕ) → del q u ≡ true → take-decl-body q (u ++ 62 ∷ v) ≡ ok (length u)
-unfolding take-decl-body del
-body-ends zero [] v h = refl
-body-ends (suc q) [] v h = absurd (true≢false (sym h))
-body-ends zero (b ∷ u) v h =
+sign-ends : (q : ℕ) (u v : List ℕ) → del q u ≡ true → to-sign q (u ++ 62 ∷ v) ≡ at (length u)
+unfolding outside del
+sign-ends zero [] v h = refl
+sign-ends (suc q) [] v h = absurd (true≢false (sym h))
+sign-ends zero (b ∷ u) v h =
     let n : one-of ">" b ≡ false = not-true (one-of ">" b) (and-left (none-of ">" b) (del (pick (one-of "\"'" b) b 0) u) h) in
-    rw n (ap (past 1) (body-ends (pick (one-of "\"'" b) b 0) u v (and-right (none-of ">" b) (del (pick (one-of "\"'" b) b 0) u) h)) ∙ ap ok (one-add (length u)))
-body-ends (suc q) (b ∷ u) v h = ap (past 1) (body-ends (pick (eqb b (suc q)) 0 (suc q)) u v h) ∙ ap ok (one-add (length u))
+    rw n (ap (later 1) (sign-ends (pick (one-of "\"'" b) b 0) u v (and-right (none-of ">" b) (del (pick (one-of "\"'" b) b 0) u) h)) ∙ ap at (one-add (length u)))
+sign-ends (suc q) (b ∷ u) v h = ap (later 1) (sign-ends (pick (eqb b (suc q)) 0 (suc q)) u v h) ∙ ap at (one-add (length u))
+
+-- a body is what stands before that sign
+pub body-at : (k : ℕ) (w : List ℕ) → take-decl-body w ≡ ok k → outside (one-of ">") 0 w ≡ at k
+unfolding take-decl-body
+body-at k w e = go (to-sign 0 w) e
+  where
+    go : (p : Place) → bytes-before unterminated p ≡ ok k → p ≡ at k
+    go (at j) f = ap at (ok-inj j k f)
+    go nowhere f = absurd (err-ok unterminated k f)
+
+body-ended : (k : ℕ) (w : List ℕ) → take-decl-body w ≡ ok k → Ended 0 k w
+body-ended k w e = sign-ended 0 k w (body-at k w e)
+
+body-ends : (u v : List ℕ) → del 0 u ≡ true → take-decl-body (u ++ 62 ∷ v) ≡ ok (length u)
+unfolding take-decl-body
+body-ends u v h = ap (bytes-before unterminated) (sign-ends 0 u v h)
 
 -- bytes above ASCII change nothing
 del-high : (q : ℕ) (x y : List ℕ) → q < 128 → T (all-high x) → del q (x ++ y) ≡ del q y
@@ -271,8 +292,8 @@ module _ (D : Dialect) where
 
       sound-by : (w : List ℕ) (k : ℕ) → Star (Ch any) w → finish-decl D pe body w ≡ ok k → Took (declared D pe B · lit ">") k w
       sound-by w k tw e =
-          let (i, f, g) = on-ok-ok (take-decl-body 0 w) (λ i. on-ok (pick (pe || has-pe-reference D (take i w)) nothing body (take i w)) (λ _. ok (i + 1))) k e in
-          let o : Ended 0 i w = body-ended 0 i w f in
+          let (i, f, g) = on-ok-ok (take-decl-body w) (λ i. on-ok (pick (pe || has-pe-reference D (take i w)) nothing body (take i w)) (λ _. ok (i + 1))) k e in
+          let o : Ended 0 i w = body-ended i w f in
           let u : List ℕ = o .body in
           let z : take i w ≡ u = ap (take i) (o .split) ∙ take-at u (62 ∷ o .rest) i (o .size) in
           let (j, h, m) = on-ok-ok (pick (pe || has-pe-reference D u) nothing body u) (λ _. ok (i + 1)) k (subst (λ (q : List ℕ). on-ok (pick (pe || has-pe-reference D q) nothing body q) (λ _. ok (i + 1)) ≡ ok k) z g) in
@@ -306,4 +327,4 @@ module _ (D : Dialect) where
           let e : u ++ v ≡ x ++ (62 ∷ v) = ap (λ (z : List ℕ). z ++ v) (l .split ∙ ap (λ (z : List ℕ). x ++ z) (l .second)) ∙ append-assoc x (62 ∷ []) v in
           let (j, p) = passes pe x (l .first) in
           let len : length u ≡ length x + 1 = ap length (l .split) ∙ length-append x (l .right) ∙ ap (λ (q : List ℕ). length x + length q) (l .second) in
-          rw (e, body-ends 0 x v (delimited pe x (l .first)), take-append-seam x (62 ∷ v), p, len)
+          rw (e, body-ends x v (delimited pe x (l .first)), take-append-seam x (62 ∷ v), p, len)

@@ -15,11 +15,12 @@ use Rattle.spec.specs.Grammar.Literals.{pubid-char}
 use Rattle.spec.specs.Grammar.Names.{Dialect, with-groups, with-beyond}
 use Rattle.spec.specs.Grammar.References.{digit, hex-digit, value-on}
 use Rattle.spec.specs.Reading.Dtd
+use Rattle.spec.specs.Reading.Places.{Place, at, nowhere, outside}
 use Rattle.spec.specs.Reading.Readers.{Result, err, Reader, nothing, refuse, starts, run, begins, contains}
-use Rattle.spec.specs.Reading.Refusals.{Refusal, too-deep}
+use Rattle.spec.specs.Reading.Refusals.{Refusal, unterminated, too-deep}
 use Rattle.spec.specs.Reading.Wellformed
 use Rattle.spec.proofs.Base.Results.{both-pick}
-use Rattle.spec.proofs.Dtd.DepthAlike.{Alike, met, same, Like, alike-on, alike-past, alike-test, _then_, like-nothing, like-byte, like-refuse, like-end, like-choose, like-on, like-word, like-while, like-throughout, like-required, like-char, like-up-to}
+use Rattle.spec.proofs.Dtd.DepthAlike.{Alike, met, same, Like, alike-on, alike-test, _then_, like-nothing, like-byte, like-refuse, like-end, like-choose, like-on, like-word, like-while, like-throughout, like-required, like-char, like-up-to}
 
 -- Each tt is a computed test: the refusal at that place is not numbered 20.
 
@@ -71,11 +72,13 @@ module _ {j : ℕ} {y : Refusal} where
   unfolding Dtd.parse-comment Dtd.check-comment
   comment = like-word "<!--" _ tt then like-up-to "-->" _ tt (like-choose _ (like-refuse _ tt) like-nothing)
 
-  decl-body : (q : ℕ) (w : List ℕ) → Alike j y (Dtd.take-decl-body q w) (Dtd.take-decl-body q w)
+  decl-body : (w : List ℕ) → Alike j y (Dtd.take-decl-body w) (Dtd.take-decl-body w)
   unfolding Dtd.take-decl-body
-  decl-body q [] = same refl tt
-  decl-body zero (b ∷ w) = both-pick (Alike j y) (one-of ">" b) (same refl tt) (alike-past 1 (decl-body (pick (one-of "\"'" b) b 0) w))
-  decl-body (suc q) (b ∷ w) = alike-past 1 (decl-body (pick (eqb b (suc q)) 0 (suc q)) w)
+  decl-body w = go (outside (one-of ">") 0 w)
+    where
+      go : (p : Place) → Alike j y (Dtd.bytes-before unterminated p) (Dtd.bytes-before unterminated p)
+      go (at k) = same refl tt
+      go nowhere = same refl tt
 
   after : (s : String) {r q : Reader} → Like j y r q → Like j y (Dtd.after s r) (Dtd.after s q)
   unfolding Dtd.after
@@ -209,7 +212,7 @@ module _ (D : Dialect) (g j : ℕ) (larger : g ≡ D .groups + j) (y : Refusal) 
 
   finish : (b : Bool) {r q : Reader} → Like j y r q → Like j y (Dtd.finish-decl low b r) (Dtd.finish-decl high b q)
   unfolding Dtd.finish-decl
-  finish b {r} {q} a = record { it = λ w. alike-on (decl-body 0 w) (λ k. alike-on (body (take k w)) (λ _. same refl tt)) }
+  finish b {r} {q} a = record { it = λ w. alike-on (decl-body w) (λ k. alike-on (body (take k w)) (λ _. same refl tt)) }
     where
       body : (x : List ℕ) → Alike j y (pick (b || Dtd.has-pe-reference low x) nothing r x) (pick (b || Dtd.has-pe-reference high x) nothing q x)
       body x =

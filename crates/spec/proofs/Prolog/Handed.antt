@@ -16,7 +16,7 @@ use Rattle.spec.specs.Grammar.XmlDecl.{Eq, VersionNum, VersionInfo, lati
 use Rattle.spec.specs.Promises.{Covered}
 use Rattle.spec.specs.Reading.Prolog.{declaration, doctype, declared, docked, word-at, is-declaration, doctype-end, next-item}
 use Rattle.spec.specs.Reading.Readers.{starts, run}
-use Rattle.spec.specs.Reading.Scan.{at}
+use Rattle.spec.specs.Reading.Places.{at}
 use Rattle.spec.proofs.Agreement.Chars.{begins-ch}
 use Rattle.spec.proofs.Agreement.Holds.{first-after, avoids-contains}
 use Rattle.spec.proofs.Agreement.Words.{contains-at}

@@ -15,35 +15,25 @@ use Rattle.spec.specs.Premise.{bare}
 use Rattle.spec.specs.Promises.{Covered, no-subset, has-subset}
 use Rattle.spec.specs.Reading.Prolog.{word-at, head-end, after-head, after-subset, doctype-end}
 use Rattle.spec.specs.Reading.Readers.{starts}
-use Rattle.spec.specs.Reading.Scan.{Place, at, later, subset-end}
+use Rattle.spec.specs.Reading.Places.{Place, at, later, outside}
+use Rattle.spec.specs.Reading.Scan.{subset-end}
 use Rattle.spec.proofs.Agreement.Holds.{first-sign}
 use Rattle.spec.proofs.Agreement.Words.{contains-at}
-use Rattle.spec.proofs.Base.Tests.{none-sub}
 use Rattle.spec.proofs.Characters.Bytes.{avoids, class-avoids}
-use Rattle.spec.proofs.Division.Clear.{Clear, Quoting, clear-tame, clear-filling, within-front}
+use Rattle.spec.proofs.Division.Clear.{Clear, outside-quoting, clear-tame, clear-filling, within-front}
 use Rattle.spec.proofs.Division.Places.{parts-met}
 use Rattle.spec.proofs.Division.Scans.{found-after, weaken}
 use Rattle.spec.proofs.Wellformed.Names.{AsciiNames}
 
--- the search for the head's end passes single signs and literals
-head-quoting : Quoting head-end
-unfolding head-end
-head-quoting = record {
-  inside = λ q b w. refl;
-  double = λ w. refl;
-  single = λ w. refl;
-  plain = λ b w n. rw (none-sub (ascii "[>") (ascii "\"'<>[]") tt b n, none-sub (ascii "\"'") (ascii "\"'<>[]") tt b n);
-}
-
 module _ (D : Dialect) (A : AsciiNames D) where
-  clear-head : (w : List ℕ) → Front D w → Clear (head-end 0) w
-  clear-head w l = clear-tame head-quoting (within-front D A w l)
+  clear-head : (w : List ℕ) → Front D w → Clear head-end w
+  clear-head w l = clear-tame (outside-quoting "[>" refl refl tt) (within-front D A w l)
 
   -- without a subset
   front-ends : (t r : List ℕ) → Front D t → doctype-end (t ++ 62 ∷ r) ≡ at (length t)
   unfolding doctype-end starts
   front-ends t r f =
-      ap (after-head (t ++ 62 ∷ r)) (found-after (head-end 0) t (62 ∷ r) (clear-head t f) (unfold head-end in refl))
+      ap (after-head (t ++ 62 ∷ r)) (found-after head-end t (62 ∷ r) (clear-head t f) (unfold outside in refl))
       ∙ (rw (drop-append-seam t (62 ∷ r)))
 
   -- with one: x the head, y the subset, z the white space after it
@@ -51,7 +41,7 @@ module _ (D : Dialect) (A : AsciiNames D) where
       → doctype-end (x ++ (91 ∷ (y ++ (93 ∷ (z ++ 62 ∷ r))))) ≡ at (length x + suc (length y + suc (length z)))
   unfolding doctype-end
   subset-ends x y z r f c a =
-      ap (after-head w) (found-after (head-end 0) x (91 ∷ v) (clear-head x f) (unfold head-end in refl))
+      ap (after-head w) (found-after head-end x (91 ∷ v) (clear-head x f) (unfold outside in refl))
       ∙ ap (λ (u : List ℕ). pick (starts (ascii ">") u) (at (length x)) (after-subset w (later (suc (length x)) (subset-end 0 0 (drop (suc (length x)) w))))) (drop-append-seam x (91 ∷ v))
       ∙ opened
     where

@@ -11,7 +11,7 @@ use Rattle.spec.specs.Grammar.Characters.{space}
 use Rattle.spec.specs.Grammar.Languages.{ascii}
 use Rattle.spec.specs.Reading.Prolog.{Item, declaration, doctype, other, cut-off, cut-doctype, word-at, doctype-end, is-declaration, declared, docked, onward, item-fuel, next-item}
 use Rattle.spec.specs.Reading.Readers.{starts, run}
-use Rattle.spec.specs.Reading.Scan.{Place, at, nowhere}
+use Rattle.spec.specs.Reading.Places.{Place, at, nowhere}
 use Rattle.spec.proofs.Base.Tests.{leb-true, leb-yes}
 
 -- the same, k bytes further on

@@ -1,14 +1,14 @@
 -- Readers take no more bytes than there are, by how they are made. Assumes nothing.
-use mathlib.Core.Bool.{Bool, true, false, _||_}
+use mathlib.Core.Bool.{Bool, _||_}
 use mathlib.Core.List.{List, [], _∷_}
-use mathlib.Core.Path.{_≡_, ap, _∙_}
-use Prim.Native.Nat.{ℕ, suc, _+_, _≤_, _<_}
+use mathlib.Core.Path.{_≡_}
+use Prim.Native.Nat.{ℕ, _+_, _≤_, _<_}
 use Prim.Native.String.{String}
 use native.Mathlib.Omega.{arith}
 use lib.Dec.{eqb}
-use lib.ListN.{length, take, drop, length-drop, length-append}
+use lib.ListN.{length, take, drop, length-drop}
 use Rattle.spec.specs.Basics.{pick}
-use Rattle.spec.specs.Grammar.Languages.{ascii}
+use Rattle.spec.specs.Grammar.Languages.{ascii, one-of}
 use Rattle.spec.specs.Grammar.Characters.{space}
 use Rattle.spec.specs.Grammar.Names.{Dialect}
 use Rattle.spec.specs.Reading.Refusals.{Refusal, unterminated}
@@ -31,30 +31,18 @@ use Rattle.spec.specs.Reading.Dtd.{
   parse-markup-decl,
 }
 use Rattle.spec.proofs.Agreement.Words.{starts-within, before-within}
+use Rattle.spec.proofs.Base.Outside.{outside-within}
+use Rattle.spec.proofs.Base.Places.{run-within}
 use Rattle.spec.proofs.Base.Results.{err-ok, ok-inj, then-ok, on-ok-ok, by-reader, else-refused, unless-refused, else-refuses}
-use Rattle.spec.proofs.Dtd.Bodies.{Ended, body-ended}
+use Rattle.spec.proofs.Dtd.Bodies.{body-at}
 use Rattle.spec.proofs.Wellformed.LongestName.{name-within}
 
 pub record Inside (r : Reader) : Type 0 where
   pub inside : (w : List ℕ) (k : ℕ) → r w ≡ ok k → k ≤ length w
 
--- a run
-run-short : (p : ℕ → Bool) (w : List ℕ) → run p w ≤ length w
-unfolding run
-run-short p [] = omega arith
-run-short p (b ∷ w) = go (p b) (run-short p w)
-  where
-    go : (t : Bool) → run p w ≤ length w → pick t (suc (run p w)) 0 ≤ suc (length w)
-    go true h = omega arith
-    go false h = omega arith
-
 -- the '>' that ends a body stands in the text
-pub body-within : (q k : ℕ) (w : List ℕ) → take-decl-body q w ≡ ok k → k < length w
-body-within q k w e =
-    let t : Ended q k w = body-ended q k w e in
-    let n : length (t .body) ≡ k = t .size in
-    let l : length w ≡ length (t .body) + suc (length (t .rest)) = ap length (t .split) ∙ length-append (t .body) (62 ∷ t .rest) in
-    omega arith
+pub body-within : (k : ℕ) (w : List ℕ) → take-decl-body w ≡ ok k → k < length w
+body-within k w e = outside-within (one-of ">") 0 w k (body-at k w e)
 
 -- the ways to make a reader
 inside-nothing : Inside nothing
@@ -125,7 +113,7 @@ inside-up-to s n check = record {
 -- the readers of a DOCTYPE
 pub inside-skip : Inside skip-s
 unfolding skip-s
-inside-skip = record { inside = λ w k e. let z = ok-inj (run space w) k e in let y = run-short space w in omega arith }
+inside-skip = record { inside = λ w k e. let z = ok-inj (run space w) k e in let y = run-within space w in omega arith }
 
 inside-space : Inside require-s
 unfolding require-s
@@ -160,10 +148,10 @@ module _ (D : Dialect) where
   unfolding finish-decl
   inside-finish pe body = record {
     inside = λ w k e.
-        let (j, f, g) = on-ok-ok (take-decl-body 0 w) (λ j. on-ok (pick (pe || has-pe-reference D (take j w)) nothing body (take j w)) (λ _. ok (j + 1))) k e in
+        let (j, f, g) = on-ok-ok (take-decl-body w) (λ j. on-ok (pick (pe || has-pe-reference D (take j w)) nothing body (take j w)) (λ _. ok (j + 1))) k e in
         let (_, _, h) = on-ok-ok (pick (pe || has-pe-reference D (take j w)) nothing body (take j w)) (λ _. ok (j + 1)) k g in
         let z = ok-inj (j + 1) k h in
-        let y = body-within 0 j w f in
+        let y = body-within j w f in
         omega arith;
   }
 

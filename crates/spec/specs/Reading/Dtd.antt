@@ -10,8 +10,9 @@ use Rattle.spec.specs.Grammar.Languages.{ascii, one-of, none-of}
 use Rattle.spec.specs.Grammar.Characters.{space}
 use Rattle.spec.specs.Grammar.Literals.{pubid-char}
 use Rattle.spec.specs.Grammar.Names.{Dialect}
-use Rattle.spec.specs.Reading.Refusals.{no-space, bad-name, has-colon, no-literal, unterminated, unexpected, trailing, bad-pubid, reserved-target, double-hyphen, bad-connector, less-than}
-use Rattle.spec.specs.Reading.Readers.{Result, ok, err, Reader, on-ok, past, _>>_, nothing, refuse, at-end, starts, choose, on, word, run, while, required, begins, char, contains, up-to}
+use Rattle.spec.specs.Reading.Refusals.{Refusal, no-space, bad-name, has-colon, no-literal, unterminated, unexpected, trailing, bad-pubid, reserved-target, double-hyphen, bad-connector, less-than}
+use Rattle.spec.specs.Reading.Places.{Place, at, nowhere, outside}
+use Rattle.spec.specs.Reading.Readers.{Result, ok, err, Reader, on-ok, _>>_, nothing, refuse, at-end, starts, choose, on, word, run, while, required, begins, char, contains, up-to}
 use Rattle.spec.specs.Reading.Wellformed.{check-char-refs, parts, name, check-name}
 
 -- skip_s, require_s
@@ -47,11 +48,13 @@ check-comment = choose (contains (ascii "--")) (refuse double-hyphen) nothing
 unfoldable pub parse-comment : Reader
 parse-comment = word "<!--" unexpected >> up-to "-->" unterminated check-comment
 
--- take_decl_body: the bytes before the first '>' outside quotes; the state is the open quote, or 0
-unfoldable pub take-decl-body : ℕ → List ℕ → Result
-take-decl-body quote [] = err unterminated
-take-decl-body zero (b ∷ bs) = pick (one-of ">" b) (ok 0) (past 1 (take-decl-body (pick (one-of "\"'" b) b 0) bs))
-take-decl-body (suc quote) (b ∷ bs) = past 1 (take-decl-body (pick (eqb b (suc quote)) 0 (suc quote)) bs)
+-- take_decl_body: the bytes before the first '>' outside quotes
+abbrev pub bytes-before : Refusal → Place → Result
+bytes-before n (at k) = ok k
+bytes-before n nowhere = err n
+
+unfoldable pub take-decl-body : Reader
+take-decl-body w = bytes-before unterminated (outside (one-of ">") 0 w)
 
 -- the target "xml" in any case
 unfoldable pub reserved : List ℕ → Bool
@@ -209,7 +212,7 @@ module _ (D : Dialect) where
   -- finish_decl: the body is read as a text of its own, unless it holds a parameter-entity reference or one came before
   unfoldable pub finish-decl : Bool → Reader → Reader
   finish-decl pe-used body w =
-      on-ok (take-decl-body 0 w)
+      on-ok (take-decl-body w)
       (λ k. on-ok (pick (pe-used || has-pe-reference (take k w)) nothing body (take k w)) (λ _. ok (k + 1)))
 
   -- parse_markup_decl

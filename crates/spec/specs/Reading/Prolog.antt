@@ -1,16 +1,17 @@
 -- The prolog of a document, taken apart. This is ours, not the Rust's, whose tokenizer does it: white space, comments and instructions
 -- are passed over, and what is looked for is the XML declaration and the DOCTYPE. Assumes nothing.
 use mathlib.Core.Bool.{Bool, _&&_}
-use mathlib.Core.List.{List, [], _∷_}
+use mathlib.Core.List.{List}
 use Prim.Native.Nat.{ℕ, zero, suc, _+_}
 use Prim.Native.String.{String}
-use lib.Dec.{eqb, ltb}
+use lib.Dec.{ltb}
 use lib.ListN.{length, drop}
 use Rattle.spec.specs.Basics.{pick}
 use Rattle.spec.specs.Grammar.Languages.{ascii, one-of}
 use Rattle.spec.specs.Grammar.Characters.{space}
 use Rattle.spec.specs.Reading.Readers.{starts, run, begins, contains, before}
-use Rattle.spec.specs.Reading.Scan.{Place, at, nowhere, later, subset-end}
+use Rattle.spec.specs.Reading.Places.{Place, at, nowhere, later, outside}
+use Rattle.spec.specs.Reading.Scan.{subset-end}
 
 -- What is found next. Places are counted from the first byte that is looked at.
 pub data Item : Type 0 where
@@ -25,11 +26,9 @@ pub data Item : Type 0 where
 unfoldable pub word-at : String → List ℕ → Place
 word-at s w = pick (contains (ascii s) w) (at (before (ascii s) w)) nowhere
 
--- the first '[' or '>' outside quotes; the state is the open quote, or 0
-unfoldable pub head-end : ℕ → List ℕ → Place
-head-end quote [] = nowhere
-head-end zero (b ∷ w) = pick (one-of "[>" b) (at 0) (later 1 (head-end (pick (one-of "\"'" b) b 0) w))
-head-end (suc quote) (b ∷ w) = later 1 (head-end (pick (eqb b (suc quote)) 0 (suc quote)) w)
+-- the first '[' or '>' outside quotes
+abbrev pub head-end : List ℕ → Place
+head-end = outside (one-of "[>") 0
 
 -- where the DOCTYPE's text ends, from its first byte: at the '>' that ends the head; or, where a subset opens, at the first '>' after the
 -- ']' that the quick scan finds
@@ -42,7 +41,7 @@ after-head w nowhere = nowhere
 after-head w (at i) = pick (starts (ascii ">") (drop i w)) (at i) (after-subset w (later (suc i) (subset-end 0 0 (drop (suc i) w))))
 
 unfoldable pub doctype-end : List ℕ → Place
-doctype-end w = after-head w (head-end 0 w)
+doctype-end w = after-head w (head-end w)
 
 -- "<?xml" and then white space or '?': not an instruction whose target only begins so
 unfoldable pub is-declaration : List ℕ → Bool

@@ -5,22 +5,12 @@ use lib.Dec.{eqb}
 use lib.ListN.{drop}
 use Rattle.spec.specs.Basics.{pick}
 use Rattle.spec.specs.Grammar.Languages.{ascii, one-of}
+use Rattle.spec.specs.Reading.Places.{Place, at, nowhere, later, outside}
 use Rattle.spec.specs.Reading.Readers.{starts, contains, before}
 
--- a place, or none
-pub data Place : Type 0 where
-  at : ℕ → Place
-  nowhere : Place
-
-abbrev pub later : ℕ → Place → Place
-later k (at i) = at (k + i)
-later k nowhere = nowhere
-
--- subset_open: the first '[' outside quotes; the state is the open quote, or 0
-unfoldable pub subset-open : ℕ → List ℕ → Place
-subset-open quote [] = nowhere
-subset-open zero (b ∷ w) = pick (one-of "[" b) (at 0) (later 1 (subset-open (pick (one-of "\"'" b) b 0) w))
-subset-open (suc quote) (b ∷ w) = later 1 (subset-open (pick (eqb b (suc quote)) 0 (suc quote)) w)
+-- subset_open: the first '[' outside quotes
+abbrev pub subset-open : List ℕ → Place
+subset-open = outside (one-of "[") 0
 
 -- internal_subset_end: the first ']' outside quotes and comments; skip counts the bytes of a comment still to pass
 unfoldable pub subset-end : ℕ → ℕ → List ℕ → Place
@@ -47,4 +37,4 @@ scan-from w (at i) = scan-after (suc i) (subset-end 0 0 (drop (suc i) w))
 scan-from w nowhere = not-opened
 
 unfoldable pub scan : List ℕ → Scan
-scan w = scan-from w (subset-open 0 w)
+scan w = scan-from w (subset-open w)

@@ -2,8 +2,8 @@
 use Prim.Native.Nat.{_-_}
 use lib.ListN.{length}
 use Rattle.search.specs.Runs.{Skipped}
-use Rattle.search.proofs.Runs.{skipping}
 use Rattle.search.specs.FirstPlace.{only}
+use Rattle.search.proofs.Runs.{blocks}
 use Rattle.search.proofs.bytes.past_blocks.Statement.{statement}
 use Rattle.search.proofs.bytes.past_blocks.Tie as tie
 
@@ -19,9 +19,9 @@ past-blocks-spec =
     (tie.spec
     Inv-loop
     μ-loop
-    (λ c. search skipping)  -- loop-holds
-    (λ c κs. search skipping)  -- past-block-requires
-    (λ c. search skipping)  -- returns
-    (λ c. search skipping)  -- loop-less
-    (λ c. search skipping)  -- loop-again
-    (λ c. search skipping))  -- returns-2
+    (λ c. search blocks)  -- loop-holds
+    (λ c κs. search blocks)  -- block-lacks-requires
+    (λ c. search blocks)  -- add-i
+    (λ c. search blocks)  -- loop-less
+    (λ c. search blocks)  -- loop-again
+    (λ c. search blocks))  -- returns
