@@ -136,6 +136,15 @@ module _ (c : ℕ) (high : 128 ≤ c) where
           pub part-rest : (x : Bool) → m ≡ false → x ≡ in-table extenders c → x ≡ part-char c
           part-rest x n e = e ∙ (rw (sym is ∙ not, sym is-digit ∙ no-digit, sym is-combining ∙ n)) ∙ part-high
 
+-- what begins a name on the ASCII path goes on with it too
+pub start-part : (c : ℕ) → ascii-start c ≡ true → ascii-part c ≡ true
+start-part c e = go (within 0x2D 0x2E c) (within 0x30 0x39 c)
+  where
+    go : (x y : Bool) → x || y || eqb c 0x3A || eqb c 0x5F || within 0x41 0x5A c || within 0x61 0x7A c ≡ true
+    go true y = refl
+    go false true = refl
+    go false false = e
+
 -- a name character of the ASCII path is an ASCII sign
 pub sign-low : (c : ℕ) → ascii-part c ≡ true → c < 128
 sign-low c e = go (decide (ltb c 128))

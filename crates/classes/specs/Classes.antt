@@ -30,6 +30,6 @@ common-letter c =
 abbrev pub ascii-start : ℕ → Bool
 ascii-start c = eqb c 0x3A || eqb c 0x5F || within 0x41 0x5A c || within 0x61 0x7A c
 
--- and that go on with it: these, '-', '.' and '0' to '9'
+-- and that go on with it: '-', '.', '0' to '9', and these
 abbrev pub ascii-part : ℕ → Bool
-ascii-part c = ascii-start c || within 0x2D 0x2E c || within 0x30 0x39 c
+ascii-part c = within 0x2D 0x2E c || within 0x30 0x39 c || eqb c 0x3A || eqb c 0x5F || within 0x41 0x5A c || within 0x61 0x7A c

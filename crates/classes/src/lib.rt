@@ -109,16 +109,16 @@ pub fn ascii_name_start(b: u8) -> bool
     (b == b':') | (b == b'_') | (b'A' <= b) & (b <= b'Z') | (b'a' <= b) & (b <= b'z')
 }
 
-// NameChar below 128, whatever the edition.
+// NameChar below 128, whatever the edition. The compiler tests the last of these first, so the letters stand there.
 pub fn ascii_name_char(b: u8) -> bool
     ensures { λ r. ⌜ r ≡ ascii-part b ⌝ }
 {
-    (b == b':')
+    (b'-' <= b) & (b <= b'.')
+        | (b'0' <= b) & (b <= b'9')
+        | (b == b':')
         | (b == b'_')
         | (b'A' <= b) & (b <= b'Z')
         | (b'a' <= b) & (b <= b'z')
-        | (b'-' <= b) & (b <= b'.')
-        | (b'0' <= b) & (b <= b'9')
 }
 
 // [4] NameChar ::= Letter | Digit | '.' | '-' | '_' | ':' | CombiningChar | Extender, from 128 on

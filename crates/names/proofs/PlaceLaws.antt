@@ -2,11 +2,13 @@
 use mathlib.Core.Path.{_≡_, refl, sym, ap, subst, _∙_}
 use mathlib.Core.Bool.{Bool, true, false, _||_, not, true≢false}
 use mathlib.Core.List.{List}
-use Prim.Native.Nat.{ℕ, _+_, _-_, _<_, _≤_}
+use Prim.Native.Nat.{ℕ, _+_, _-_, _^_, _<_, _≤_}
 use native.Mathlib.Nat.{add-assoc, add-zero, zero-add}
 use native.Mathlib.Omega.{arith}
 use borrow.Author.Needs.{needs}
 use borrow.Author.Tests.{not-true, not-false}
+use mir.Syntax.{w64}
+use mir.Val.{Fits}
 use lib.ListN.{length, take, drop, getD, length-drop}
 use lib.Seq.{drop-drop, take-nil, length-take-le}
 use Rattle.spec.specs.Grammar.Names.{Dialect, Name}
@@ -15,8 +17,8 @@ use Rattle.spec.specs.Reading.Utf8.{decode1}
 use Rattle.spec.specs.Reading.Readers.{Result, ok, err, number-of, taken, past, _>>_, at-end, char}
 use Rattle.spec.specs.Reading.Wellformed.{parts, name, name-length, check-name}
 use Rattle.spec.proofs.Base.Tests.{or-false-left, or-false-right}
-use Rattle.spec.proofs.Base.Places.{drop-at, drop-end}
-use Rattle.spec.proofs.Wellformed.LongestName.{char-is, char-not, char-none, chars-stop, chars-turn, parts-ok, name-first, name-none, Named, a-name, no-name, named, name-within, name-is-name, name-longest}
+use Rattle.spec.proofs.Base.Places.{drop-at, drop-end, take-rest}
+use Rattle.spec.proofs.Wellformed.LongestName.{char-is, char-not, char-none, chars-stop, chars-turn, parts-ok, parts-takes, name-first, name-none, Named, a-name, no-name, named, name-within, name-is-name, name-longest}
 use Rattle.utf8.specs.Seen.{seen}
 use Rattle.utf8.specs.declared.Point.{Point}
 use Rattle.utf8.specs.declared.Point.the-variants.{Is, Not}
@@ -26,7 +28,7 @@ use Rattle.classes.specs.Classes.{dialect, ascii-start, ascii-part}
 use Rattle.names.specs.Names.{AsciiRun, AnyName}
 use Rattle.names.specs.NamePart.{NamePart}
 use Rattle.classes.specs.declared.Names.{Names}
-use Rattle.classes.proofs.ClassLaws.{start-low, part-low, sign-low}
+use Rattle.classes.proofs.ClassLaws.{start-low, part-low, start-part, sign-low}
 
 -- whether a character of the class q stands at i, by what the code tests
 module _ (q : ℕ → Bool) (s : List ℕ) (i : ℕ) where
@@ -93,6 +95,20 @@ module _ (names : Names) (s : List ℕ) (at i : ℕ) (a : AsciiRun s at i) where
 
   pub run-on : (e : ℕ) → e ≡ i + taken (parts (dialect names) (drop i s)) → e ≡ at + taken (parts (dialect names) (drop at s))
   run-on e f = f ∙ a .among names
+
+-- past the end, and in the rest of a text, of which e bytes are name characters
+pub rest-none : (D : Dialect) (s : List ℕ) (at : ℕ) → length s ≤ at → at ≡ at + taken (parts D (drop at s))
+rest-none D s at h = parts-stop D s at _ refl (none-past (D .part) s at h)
+
+module _ (D : Dialect) (s : List ℕ) (at e : ℕ) (a : e ≡ 0 + taken (parts D (drop 0 (take (length s - at) (drop at s))))) where
+  rest-taken : e ≡ taken (parts D (drop at s))
+  rest-taken = a ∙ (rw (zero-add, take-rest s at))
+
+  pub rest-is : at + e ≡ at + taken (parts D (drop at s))
+  rest-is = rw rest-taken
+
+  pub rest-fits : at < length s → length s < 2 ^ 64 → Fits w64 (at + e)
+  rest-fits h g = omega (arith, rest-taken, parts-takes D (drop at s) .within, length-drop at s)
 
 -- the name at a place, by its first character
 module _ (D : Dialect) (s : List ℕ) (at : ℕ) where
@@ -167,7 +183,7 @@ module _ (w : List ℕ) (t : Bool) where
   pub front-start : (length w ≡ 0 → ⊥) → t ≡ ascii-start (getD w 0 0) → not t ≡ false → Front w 1
   front-start h e n =
       let y : t ≡ true = not-false t n in
-      let l : getD w 0 0 < 128 = sign-low (getD w 0 0) (rw (sym e ∙ y)) in
+      let l : getD w 0 0 < 128 = sign-low (getD w 0 0) (start-part (getD w 0 0) (sym e ∙ y)) in
       record {
         some = omega arith;
         onward = λ names. name-go (dialect names) w 0 1 _ (one-low (dialect names .start) w 0 t (start-low names (getD w 0 0) t l e) (omega arith) l y) refl;
@@ -201,6 +217,8 @@ not-found w e = absurd (true≢false (sym e))
 pub ruleset loops = (none-past, none-point, none-class, one-class, none-low, one-low, part-low, parts-stop, parts-go, point-fits, point-less, needs)
 
 pub ruleset asciis = (ascii-past, ascii-stop, ascii-go, run-past, run-ends, run-on, needs)
+
+pub ruleset rests = (rest-none, rest-is, rest-fits, needs)
 
 pub ruleset firsts = (none-past, none-point, none-class, one-class, none-low, one-low, start-low, name-stop, name-go, point-fits, needs)
 

@@ -65,6 +65,16 @@ fn decoded_end(s: &[u8], at: usize, names: Names) -> usize
     i
 }
 
+// The same, with the rest handed over as a part: whoever hands on a whole text copies it at each call, and most names never come here.
+fn rest_end(s: &[u8], at: usize, names: Names) -> usize
+    ensures { λ r. ⌜ r ≡ at + taken (parts (dialect names) (drop at (now (s .entry)))) ⌝ }
+{
+    if s.len() <= at {
+        return at;
+    }
+    at + decoded_end(&s[at..], 0, names)
+}
+
 // The end of the name characters from `at` on, the (NameChar)* of [5] Name and [7] Nmtoken.
 pub fn name_chars_end(s: &[u8], at: usize, names: Names) -> usize
     ensures { λ r. ⌜ r ≡ at + taken (parts (dialect names) (drop at (now (s .entry)))) ⌝ }
@@ -76,7 +86,7 @@ pub fn name_chars_end(s: &[u8], at: usize, names: Names) -> usize
     if s[i] < 128 {
         return i;
     }
-    decoded_end(s, i, names)
+    rest_end(s, i, names)
 }
 
 // The end of the name at `at`, [5] Name: `at` itself where none begins.
@@ -97,8 +107,9 @@ pub fn name_end(s: &[u8], at: usize, names: Names) -> usize
     let Point::Is(c, n) = p else {
         return at;
     };
+    // such a name is seldom ASCII in the rest
     if is_name_start_char(names, c) {
-        return name_chars_end(s, at + n, names);
+        return rest_end(s, at + n, names);
     }
     at
 }

@@ -2,15 +2,15 @@
 use mathlib.Core.Path.{_≡_, refl, sym, ap, _∙_}
 use mathlib.Core.Bool.{Bool, true, false}
 use mathlib.Core.List.{List}
-use Prim.Native.Nat.{ℕ, _+_, _*_, _%_, _<_, _≤_}
+use Prim.Native.Nat.{ℕ, _+_, _-_, _*_, _%_, _<_, _≤_}
 use native.Mathlib.Omega.{arith}
 use borrow.Author.Needs.{needs}
-use lib.ListN.{length, getD, drop}
+use lib.ListN.{length, getD, take, drop}
 use lib.Seq.{drop-drop, getD-drop}
 use Rattle.spec.specs.Reading.Utf8.{point, two, three, four, decode4, decode1}
 use Rattle.spec.specs.Reading.Readers.{Result, ok, err, past}
 use Rattle.spec.specs.Reading.Source.{utf8}
-use Rattle.spec.proofs.Base.Places.{drop-at, drop-end, byte-past}
+use Rattle.spec.proofs.Base.Places.{drop-at, drop-end, byte-past, take-rest}
 use Rattle.spec.proofs.Characters.Utf8.{decode4-1, decode4-2, decode4-3, decode4-4, decode4-no}
 use Rattle.spec.proofs.Characters.Valid.{utf8-end, utf8-turn, utf8-stop}
 use Rattle.utf8.specs.Seen.{seen, accepts}
@@ -55,6 +55,20 @@ code-is s at b c d r h eb ec ed e =
 pub code-one : (s : List ℕ) (at : ℕ) → at < length s → getD s at 0 < 0x80 → Is (getD s at 0) 1 ≡ seen (decode1 (drop at s))
 code-one s at h k = code-is s at _ _ _ (Is (getD s at 0) 1) h refl refl refl (one-is (getD s at 0) _ _ _ k)
 
+-- at the front of a text, and of the rest of one
+module _ (t : List ℕ) (h : length t ≡ 0 → ⊥) where
+  pub first-one : getD t 0 0 < 0x80 → Is (getD t 0 0) 1 ≡ seen (decode1 t)
+  first-one k = code-one t 0 (omega arith) k
+
+  pub first-is : (b c d : ℕ) (r : Point) → b ≡ getD t 1 0 → c ≡ getD t 2 0 → d ≡ getD t 3 0 → r ≡ seen (decode4 (getD t 0 0) b c d) → r ≡ seen (decode1 t)
+  first-is b c d r e f g a = code-is t 0 b c d r (omega arith) e f g a
+
+pub first-none : (t : List ℕ) → length t ≡ 0 → Not ≡ seen (decode1 t)
+first-none t e = code-none t 0 (omega arith)
+
+pub code-rest : (s : List ℕ) (at : ℕ) (r : Point) → r ≡ seen (decode1 (take (length s - at) (drop at s))) → r ≡ seen (decode1 (drop at s))
+code-rest s at r a = a ∙ (rw (take-rest s at))
+
 -- a text from its front: a code point decides as little as its absence decides all
 accepts-past : (k : ℕ) (x : Result) → accepts (past k x) ≡ accepts x
 accepts-past k (ok j) = refl
@@ -79,6 +93,6 @@ module _ (s : List ℕ) (i : ℕ) (p : Point) (h : i < length s) (a : p ≡ seen
 -- what the proofs search: of decode; of a code point at a place; of a text from its front
 pub ruleset forms = (one-is, two-is, three-is, four-is, none-is, needs)
 
-pub ruleset places = (byte-past, code-none, code-one, code-is, needs)
+pub ruleset places = (byte-past, first-none, first-one, first-is, code-none, code-rest, needs)
 
 pub ruleset fronts = (point-fits, point-less, valid-end, valid-no, valid-go, needs)

@@ -95,24 +95,30 @@ fn decode(a: u8, b: u8, c: u8, d: u8) -> Point
     Point::Not
 }
 
-// The code point that stands at a place, and its width.
+// The code point at the front of a text, and its width.
+fn first_point(t: &[u8]) -> Point
+    ensures { λ r. ⌜ r ≡ seen (decode1 (now (t .entry))) ⌝ }
+{
+    if t.len() == 0 {
+        return Point::Not;
+    }
+    let a = t[0];
+    // most text: no look at the bytes that follow
+    if a < 0x80 {
+        return Point::Is(a as u32, 1);
+    }
+    decode(a, byte_at(t, 1), byte_at(t, 2), byte_at(t, 3))
+}
+
+// The code point that stands at a place, and its width. The rest is handed over as a part, since whoever hands on a whole text copies it
+// at each call.
 pub fn code_point(s: &[u8], at: usize) -> Point
     ensures { λ r. ⌜ r ≡ seen (decode1 (drop at (now (s .entry)))) ⌝ }
 {
     if s.len() <= at {
         return Point::Not;
     }
-    let a = s[at];
-    // most text: no look at the bytes that follow
-    if a < 0x80 {
-        return Point::Is(a as u32, 1);
-    }
-    decode(
-        a,
-        byte_at(s, at + 1),
-        byte_at(s, at + 2),
-        byte_at(s, at + 3),
-    )
+    first_point(&s[at..])
 }
 
 // The text decoded from its front: what decides where the quick tests do not.

@@ -11,5 +11,5 @@ name-chars-end-spec =
     (λ c. search asciis)  -- returns
     (λ c. search asciis)  -- shared-slice-read-if2
     (λ c. search asciis)  -- returns-2
-    (λ c κs. search asciis)  -- decoded-end-requires
+    (λ c κs. search asciis)  -- rest-end-requires
     (λ c. search asciis))  -- returns-3

@@ -19,7 +19,7 @@ name-end-spec =
     (λ c. search firsts)  -- enum-told
     (λ c. search firsts)  -- returns-4
     (λ c κs. search firsts)  -- is-name-start-char-requires
-    (λ c. search firsts)  -- add-name-chars-end-2
-    (λ c κs. search firsts)  -- name-chars-end-requires-2
+    (λ c. search firsts)  -- add-rest-end
+    (λ c κs. search firsts)  -- rest-end-requires
     (λ c. search firsts)  -- returns-5
     (λ c. search firsts))  -- returns-6

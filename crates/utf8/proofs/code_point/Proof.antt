@@ -8,14 +8,8 @@ code-point-spec =
     tie.close
     (tie.spec
     (λ c. search places)  -- returns
-    (λ c. search places)  -- shared-slice-read-a
-    (λ c. search places)  -- cast-t8
-    (λ c. search places)  -- returns-2
-    (λ c. search places)  -- add-byte-at
-    (λ c κs. search places)  -- byte-at-requires
-    (λ c. search places)  -- add-byte-at-2
-    (λ c κs. search places)  -- byte-at-requires-2
-    (λ c. search places)  -- add-byte-at-3
-    (λ c κs. search places)  -- byte-at-requires-3
-    (λ c κs. search places)  -- decode-requires
-    (λ c. search places))  -- returns-3
+    (λ c. search places)  -- sub-first-point
+    (λ c. search places)  -- part-first-point-start
+    (λ c. search places)  -- part-first-point-end
+    (λ c κs. search places)  -- first-point-requires
+    (λ c. search places))  -- returns-2
