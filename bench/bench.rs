@@ -46,18 +46,27 @@ fn ours(call: &str) -> Box<dyn Fn(&[u8]) -> bool> {
     }
 }
 
-/// Nanoseconds per byte of the Rust and of the port.
-fn both(call: &str, text: &str) -> (f64, f64) {
+/// Nanoseconds per byte of the Rust and of the port on each of the texts. All take turns, so that the sizes of a shape can be compared
+/// too where the machine changes its speed.
+fn both(call: &str, texts: &[String]) -> Vec<(f64, f64)> {
     let (rust, ours) = (rust(call), ours(call));
-    let theirs = || std::str::from_utf8(black_box(text.as_bytes())).is_ok_and(rust);
-    let port = || ours(black_box(text.as_bytes()));
-    assert!(
-        theirs() && port(),
-        "{call} refuses a text of {} bytes",
-        text.len()
-    );
-    let times = in_turn(&[&theirs, &port]);
-    (times[0] / text.len() as f64, times[1] / text.len() as f64)
+    let theirs = |text: &str| std::str::from_utf8(black_box(text.as_bytes())).is_ok_and(rust);
+    let port = |text: &str| ours(black_box(text.as_bytes()));
+    let mut calls: Vec<Box<dyn Fn() -> bool + '_>> = Vec::new();
+    for text in texts {
+        assert!(
+            theirs(text) && port(text),
+            "{call} refuses a text of {} bytes",
+            text.len()
+        );
+        calls.push(Box::new(move || theirs(text)));
+        calls.push(Box::new(|| port(text)));
+    }
+    let calls: Vec<&dyn Fn() -> bool> = calls.iter().map(|call| &**call).collect();
+    let times = in_turn(&calls);
+    (times.chunks(2).zip(texts))
+        .map(|(pair, text)| (pair[0] / text.len() as f64, pair[1] / text.len() as f64))
+        .collect()
 }
 
 fn cells((rust, port): (f64, f64)) -> String {
@@ -65,17 +74,22 @@ fn cells((rust, port): (f64, f64)) -> String {
 }
 
 fn row(call: &str, (name, shape): shapes::Shape) {
-    print!("{call:<18}{name:<22}");
-    for (_, size) in SIZES {
-        let text = shape(size);
+    let texts = SIZES.map(|(_, size)| shape(size));
+    for (text, (_, size)) in texts.iter().zip(SIZES) {
         assert!(
             text.len() <= size && text.len() + 40 > size,
             "{name} at {size} has {} bytes",
             text.len()
         );
-        print!("{}", cells(both(call, &text)));
     }
-    println!();
+    print!("{call:<18}{name:<22}");
+    println!(
+        "{}",
+        both(call, &texts)
+            .into_iter()
+            .map(cells)
+            .collect::<String>()
+    );
 }
 
 fn head(columns: &str) {
@@ -102,12 +116,12 @@ fn calls(only: Option<&str>) {
         row(call, *shape);
     }
     if wanted("check_declaration") {
-        let text = shapes::USUAL_DECLARATION;
+        let text = [shapes::USUAL_DECLARATION.to_string()];
         print!("{:<18}{:<22}", "check_declaration", "usual");
         println!(
             "{}, at its {} bytes",
-            cells(both("check_declaration", text)),
-            text.len()
+            cells(both("check_declaration", &text)[0]),
+            text[0].len()
         );
     }
 }
