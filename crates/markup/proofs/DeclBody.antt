@@ -24,7 +24,8 @@ use Rattle.search.specs.Places.{place-from, either}
 use Rattle.search.specs.declared.places.Found.{Found}
 use Rattle.search.specs.declared.places.Found.the-variants.{Here, Nowhere}
 use Rattle.search.proofs.Finding.{starts-first, was-nowhere, was-here, here-onward, here-fits}
-use Rattle.search.proofs.Outside.{from-nowhere, from-here, outside-one}
+use Rattle.search.proofs.Outside.{outside-one}
+use Rattle.search.proofs.Placing.{from-nowhere, from-here}
 
 -- r is what is found of the '>' that ends a body
 module _ (s : List ℕ) (i : ℕ) (r : Found) (a : r ≡ place-from (outside (either 62 62) 0) s i) where

@@ -19,7 +19,8 @@ use Rattle.search.specs.FirstPlace.{first-place}
 use Rattle.search.specs.Places.{placed, place-from}
 use Rattle.search.specs.declared.places.Found.{Found}
 use Rattle.search.specs.declared.places.Found.the-variants.{Here, Nowhere}
-use Rattle.search.proofs.Outside.{from-nowhere, from-here, signs-found}
+use Rattle.search.proofs.Outside.{signs-found}
+use Rattle.search.proofs.Placing.{from-nowhere, from-here}
 
 -- the first place of a word, as find gives it and as the rule does
 pub word-from : (k : String) (s : List ℕ) (from : ℕ) → first-place (ascii k) s from ≡ place-from (word-at k) s from

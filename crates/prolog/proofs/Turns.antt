@@ -30,7 +30,7 @@ use Rattle.search.specs.Places.{place-from}
 use Rattle.search.specs.declared.places.Found.{Found}
 use Rattle.search.specs.declared.places.Found.the-variants.{Here, Nowhere}
 use Rattle.search.proofs.Finding.{places-found}
-use Rattle.search.proofs.Outside.{from-nowhere, from-here}
+use Rattle.search.proofs.Placing.{from-nowhere, from-here}
 use Rattle.search.proofs.Words.{word-fits}
 use Rattle.prolog.specs.declared.items.Item.{Item}
 use Rattle.prolog.specs.declared.items.Item.the-variants.{Declaration, Doctype, Other, CutOff, CutDoctype}

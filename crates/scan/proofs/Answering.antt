@@ -21,7 +21,7 @@ use Rattle.spec.proofs.Division.Promised.{cuts-promise}
 use Rattle.search.specs.Places.{place-from}
 use Rattle.search.specs.declared.places.Found.{Found}
 use Rattle.search.specs.declared.places.Found.the-variants.{Here, Nowhere}
-use Rattle.search.proofs.Outside.{from-nowhere, from-here}
+use Rattle.search.proofs.Placing.{from-nowhere, from-here}
 use Rattle.scan.specs.declared.calls.Scanned.{Scanned}
 use Rattle.scan.specs.declared.calls.Scanned.the-variants.{NotOpened, NotClosed, Closed, Refused}
 use Rattle.scan.specs.Answers.{scanned, admitted-answer, answer-by, scan-answer, Scans}

@@ -26,7 +26,8 @@ use Rattle.search.specs.Places.{placed, place-from, either}
 use Rattle.search.specs.declared.places.Found.{Found}
 use Rattle.search.specs.declared.places.Found.the-variants.{Here, Nowhere}
 use Rattle.search.proofs.Finding.{was-nowhere, was-here, here-onward, here-fits}
-use Rattle.search.proofs.Outside.{from-onward, from-nowhere, from-here, sign-in, sign-less, sign-hit, outside-one, signs-found}
+use Rattle.search.proofs.Outside.{sign-in, sign-less, sign-hit, outside-one, signs-found}
+use Rattle.search.proofs.Placing.{from-onward, from-nowhere, from-here}
 
 -- the first pass
 pub open-found : (s : List ℕ) (i : ℕ) (r : Found) → r ≡ place-from (outside (either 91 91) 0) s i → r ≡ place-from subset-open s i

@@ -1,6 +1,6 @@
 -- Laws of the search for the first of two signs outside quotes. Assumes nothing.
 use mathlib.Core.Path.{_≡_, refl, sym, ap, _∙_}
-use mathlib.Core.Bool.{Bool, true, false, _&&_, _||_, not, true≢false, or-false, or-assoc}
+use mathlib.Core.Bool.{Bool, true, false, _&&_, _||_, not, true≢false, or-false}
 use mathlib.Core.List.{List, [], _∷_}
 use Prim.Native.Nat.{ℕ, zero, suc, _+_, _-_, _^_, _<_, _≤_}
 use native.Mathlib.Nat.{add-zero}
@@ -10,91 +10,22 @@ use mir.Syntax.{w64}
 use mir.Val.{Fits}
 use lib.Dec.{eqb}
 use lib.ListN.{length, getD, drop, length-drop}
-use lib.Seq.{drop-drop, getD-drop}
+use lib.Seq.{getD-drop}
 use Rattle.spec.specs.Basics.{pick}
 use Rattle.spec.specs.Grammar.Languages.{among, one-of}
 use Rattle.spec.specs.Reading.Places.{Place, at, nowhere, later, outside}
 use Rattle.spec.specs.Reading.Readers.{run, starts, contains, before}
 use Rattle.spec.proofs.Base.Outside.{later-zero, later-later, later-suc, outside-within, outside-hit}
 use Rattle.spec.proofs.Base.Places.{drop-at, drop-end}
-use Rattle.spec.proofs.Base.Tests.{and-left, and-right, or-false-left, or-false-right}
-use Rattle.search.specs.FirstPlace.{first-place, only}
+use Rattle.spec.proofs.Base.Tests.{or-false-left, or-false-right}
+use Rattle.search.specs.FirstPlace.{first-place}
 use Rattle.search.specs.Places.{placed, place-from, either, stop}
-use Rattle.search.specs.Runs.{away, Skipped, Block}
+use Rattle.search.specs.Runs.{away}
 use Rattle.search.specs.declared.places.Found.{Found}
 use Rattle.search.specs.declared.places.Found.the-variants.{Here, Nowhere}
 use Rattle.search.proofs.Finding.{was-nowhere, was-here, here-onward, here-fits}
-use Rattle.search.proofs.Runs.{run-end, run-stop, away-go, blocks}
-
--- the class as the code tests it
-pub stop-is : (sign other b : ℕ) → eqb b 34 || eqb b 39 || eqb b sign || eqb b other ≡ stop sign other b
-unfolding stop
-stop-is sign other b = simp (or-false, or-assoc)
-
--- a block without bytes of two classes, and of four
-away-or : (p q : ℕ → Bool) (n : ℕ) (w : List ℕ) → n ≤ away p w → n ≤ away q w → n ≤ away (λ b. p b || q b) w
-unfolding away run
-away-or p q zero w h k = omega arith
-away-or p q (suc n) [] h k = h
-away-or p q (suc n) (b ∷ w) h k = go (p b) (q b) h k (away-or p q n w)
-  where
-    go : (s t : Bool) → suc n ≤ pick (not s) (suc (run (λ c. not (p c)) w)) 0 → suc n ≤ pick (not t) (suc (run (λ c. not (q c)) w)) 0
-        → (n ≤ run (λ c. not (p c)) w → n ≤ run (λ c. not (q c)) w → n ≤ run (λ c. not (p c || q c)) w) → suc n ≤ pick (not (s || t)) (suc (run (λ c. not (p c || q c)) w)) 0
-    go true t h k ih = h
-    go false true h k ih = k
-    go false false h k ih = omega (arith, ih (omega arith) (omega arith))
-
-away-all : (p : ℕ → Bool) (n : ℕ) (w : List ℕ) → n ≤ away p w → n ≤ away (λ b. false) w
-unfolding away run
-away-all p zero w h = omega arith
-away-all p (suc n) [] h = h
-away-all p (suc n) (b ∷ w) h = go (p b) h (away-all p n w)
-  where
-    go : (s : Bool) → suc n ≤ pick (not s) (suc (run (λ c. not (p c)) w)) 0 → (n ≤ run (λ c. not (p c)) w → n ≤ run (λ c. true) w) → suc n ≤ suc (run (λ c. true) w)
-    go true h ih = absurd (omega arith)
-    go false h ih = omega (arith, ih (omega arith))
-
-pub plain-block : (sign other : ℕ) (s : List ℕ) (i n : ℕ) (a b c d : Bool) → Block (only 34) s i n a → Block (only 39) s i n b → Block (only sign) s i n c → Block (only other) s i n d → Block (stop sign other) s i n (a && b && c && d)
-unfolding stop
-plain-block sign other s i n a b c d f g h k = record {
-  lies = λ e.
-      let x = and-left (a && b && c) d e in
-      let y = and-left (a && b) c x in
-      let l = k .lies (and-right (a && b && c) d e) in
-      let w : List ℕ = drop i s in
-      away-or (only 34) _ n w (f .lies (and-left a b y)) (away-or (only 39) _ n w (g .lies (and-right a b y))
-      (away-or (only sign) _ n w (h .lies (and-right (a && b) c x)) (away-or (only other) (λ _. false) n w l (away-all (only other) n w l))));
-}
-
--- the loop of plain_end: the bytes outside the class from i on end where those from `at` on do
-module _ (p : ℕ → Bool) (s : List ℕ) (at i : ℕ) (inv : Skipped p s at i) where
-  pub away-end : length s ≤ i → i ≡ at + away p (drop at s)
-  unfolding away
-  away-end h = run-end (λ b. not (p b)) s at i (inv .ends) h
-
-  module _ (t : Bool) (h : i < length s) (e : t ≡ p (getD s i 0)) where
-    pub away-stop : t ≡ true → i ≡ at + away p (drop at s)
-    unfolding away
-    away-stop f = run-stop (λ b. not (p b)) s at i (inv .ends) h (ap not (sym e ∙ f))
-
-    pub away-on : t ≡ false → Skipped p s at (i + 1)
-    away-on f = record { onward = omega (arith, inv .onward); ends = away-go p s at i t h e (inv .ends) f }
-
--- what stands there is of the class
-hit : (p : ℕ → Bool) (w : List ℕ) → away p w < length w → p (getD w (away p w) 0) ≡ true
-unfolding away run
-hit p [] h = absurd (omega arith)
-hit p (b ∷ w) h = go (p b) refl h (hit p w)
-  where
-    n : ℕ
-    n = run (λ c. not (p c)) w
-
-    go : (t : Bool) → p b ≡ t → pick (not t) (suc n) 0 < suc (length w) → (n < length w → p (getD w n 0) ≡ true) → p (getD (b ∷ w) (pick (not t) (suc n) 0) 0) ≡ true
-    go true e h ih = e
-    go false e h ih = ih (omega arith)
-
-stopped : (p : ℕ → Bool) (s : List ℕ) (i r : ℕ) → r ≡ i + away p (drop i s) → r < length s → p (getD s r 0) ≡ true
-stopped p s i r a h = ap (λ (k : ℕ). p (getD s k 0)) a ∙ ap p (sym (getD-drop i s (away p (drop i s)) 0)) ∙ hit p (drop i s) (omega (arith, length-drop i s))
+use Rattle.search.proofs.Placing.{from-far, from-onward, from-here}
+use Rattle.search.proofs.Stopping.{stopped}
 
 -- The rule over bytes that are no stop, and over a quoted part.
 passed : (f : List ℕ → Place) (p : ℕ → Bool) → ((b : ℕ) (w : List ℕ) → p b ≡ false → f (b ∷ w) ≡ later 1 (f w)) → (w : List ℕ) → f w ≡ later (away p w) (f (drop (away p w) w))
@@ -123,14 +54,6 @@ quoted p (suc q) (b ∷ w) n = go (eqb b (suc q)) (contains (suc q ∷ []) w) (q
     go true c ih = refl
     go false true ih = ap (later 1) ih ∙ later-suc k (outside p 0 (drop k w))
     go false false ih = ap (later 1) ih
-
--- n bytes further on, and the same there if nothing is to be found in them
-from-far : (f : List ℕ → Place) (s : List ℕ) (i n : ℕ) → place-from f s (i + n) ≡ placed (later i (later n (f (drop n (drop i s)))))
-unfolding place-from
-from-far f s i n = ap placed (ap (λ (w : List ℕ). later (i + n) (f w)) (sym (drop-drop n i s)) ∙ sym (later-later i n (f (drop n (drop i s)))))
-
-pub from-onward : (f : List ℕ → Place) (s : List ℕ) (i n : ℕ) → f (drop i s) ≡ later n (f (drop n (drop i s))) → place-from f s (i + n) ≡ place-from f s i
-from-onward f s i n e = from-far f s i n ∙ (unfold place-from in ap (λ (p : Place). placed (later i p)) (sym e))
 
 -- The loop of outside_quotes. The invariant: what is found from i on is what is found, W.
 module _ (sign other : ℕ) (s : List ℕ) (i : ℕ) (W : Found) (inv : place-from (outside (either sign other) 0) s i ≡ W) where
@@ -183,24 +106,6 @@ module _ (sign other : ℕ) (s : List ℕ) (i : ℕ) (W : Found) (inv : place-fr
 pub quoted-less : (p : ℕ → Bool) (kw s : List ℕ) (i r : ℕ) (q : Found) (j : ℕ) → i < length s → r ≡ i + away p (drop i s) → q ≡ first-place kw s (r + 1) → q ≡ Here j → length s - (j + 1) < length s - i
 quoted-less p kw s i r q j h a b f = omega (arith, here-onward kw s (r + 1) q b j f)
 
--- the rule's place from the code's, which is counted from the text's first byte
-module _ (f : List ℕ → Place) (s : List ℕ) (from : ℕ) (r : Found) (a : r ≡ place-from f s from) where
-  pub from-nowhere : r ≡ Nowhere → f (drop from s) ≡ nowhere
-  unfolding place-from
-  from-nowhere b = go (f (drop from s)) a
-    where
-      go : (p : Place) → r ≡ placed (later from p) → p ≡ nowhere
-      go nowhere e = refl
-      go (at n) e = let z : _≡_ {A = ℕ} 0 1 = cc in absurd (omega arith)
-
-  pub from-here : (j : ℕ) → r ≡ Here j → (n : ℕ) × (f (drop from s) ≡ at n) × (j ≡ from + n)
-  unfolding place-from
-  from-here j b = go (f (drop from s)) refl a
-    where
-      go : (p : Place) → f (drop from s) ≡ p → r ≡ placed (later from p) → (n : ℕ) × (f (drop from s) ≡ at n) × (j ≡ from + n)
-      go nowhere g e = let z : _≡_ {A = ℕ} 0 1 = cc in absurd (omega arith)
-      go (at n) g e = (n, g, cc)
-
 -- the byte that outside_quotes found is one of the text, and of the class
 module _ (p : ℕ → Bool) (s : List ℕ) (i : ℕ) (r : Found) (a : r ≡ place-from (outside p 0) s i) (j : ℕ) (e : r ≡ Here j) where
   pub sign-in : j < length s
@@ -228,8 +133,6 @@ outside-one c zero (b ∷ w) = go (eqb b c) (outside-one c (pick (one-of "\"'" b
 outside-one c (suc q) (b ∷ w) = ap (later 1) (outside-one c (pick (eqb b (suc q)) 0 (suc q)) w)
 
 -- what the search outside quotes searches
-pub ruleset stops = (stop-is, plain-block, away-end, away-stop, away-on, blocks)
-
 pub ruleset outsides = (outside-over, outside-none, outside-here, outside-open, outside-quoted, quoted-less, here-fits, needs)
 
 -- and what code searches of the place that it gives

@@ -11,7 +11,7 @@ use Rattle.spec.specs.Grammar.AppendixB.{appendix-B}
 use Rattle.spec.specs.Grammar.Characters.{Chars}
 use Rattle.spec.specs.Grammar.Division.{Front, Division}
 use Rattle.spec.specs.Grammar.Doctype.{doctypedecl, Misc}
-use Rattle.spec.specs.Grammar.Names.{Dialect, Name, NCName, with-groups}
+use Rattle.spec.specs.Grammar.Names.{Dialect, Name, NCName, with-groups, with-beyond}
 use Rattle.spec.specs.Grammar.References.{Referred, CharData, AttText}
 use Rattle.spec.specs.Grammar.XmlDecl.{XMLDecl}
 use Rattle.spec.specs.Promises.{Checks, Tells, Covered, expected}
@@ -22,7 +22,7 @@ use Rattle.spec.specs.Reading.Readers.{ok, err, Reader, nothing}
 use Rattle.spec.specs.Reading.Refusals.{Refusal}
 use Rattle.spec.specs.Reading.Places.{at}
 use Rattle.spec.specs.Reading.Scan.{scan}
-use Rattle.spec.specs.Reading.Source.{checked}
+use Rattle.spec.specs.Reading.Source.{admit, checked}
 use Rattle.spec.specs.Reading.Stops.{passed, stopped, doctype-progress, stop-place}
 use Rattle.spec.specs.Reading.Wellformed.{check-chars, check-char-refs, check-text, check-attr-value, check-name}
 use Rattle.spec.specs.Rows.{rows}
@@ -33,7 +33,7 @@ use Rattle.spec.proofs.Checks.NCNames.{ncname-decides}
 use Rattle.spec.proofs.Checks.XmlDecl.{declaration-agrees}
 use Rattle.spec.proofs.Division.Places.{divided, apart, one-division}
 use Rattle.spec.proofs.Division.Promised.{cuts-covered}
-use Rattle.spec.proofs.Dtd.Depth.{deeper-same-B}
+use Rattle.spec.proofs.Dtd.Depth.{met-exactly-B, deeper-same-B}
 use Rattle.spec.proofs.Dtd.Texts.{doctype-agrees}
 use Rattle.spec.proofs.Prolog.Handed.{doctype-handed}
 use Rattle.spec.proofs.Prolog.Heads.{doctype-ends}
@@ -80,7 +80,12 @@ ncname-right = tells (ncname-decides appendix-B appendix-B-ascii)
 pub sixteen-rows : All Rows.Right rows
 sixteen-rows = Rows.rows-right
 
--- the limit of 64 open groups changes no answer but 20
+-- 20 is the answer exactly where the text may be looked at and a 65th open group is the first thing refused: whatever one more group is
+-- refused with, that is the answer then
+pub groups-exactly : (w : List ℕ) → (checked (check-doctype appendix-B) w ≡ 20) ↔ (((k : ℕ) × (admit w ≡ ok k)) × ((r : Refusal) → check-doctype (with-beyond appendix-B r) w ≡ err r))
+groups-exactly = met-exactly-B
+
+-- and that limit changes no answer but 20
 pub groups-free : (w : List ℕ) → (checked (check-doctype appendix-B) w ≡ 20 → ⊥)
     → (n : ℕ) → 64 ≤ n → checked (check-doctype (with-groups appendix-B n)) w ≡ checked (check-doctype appendix-B) w
 groups-free = deeper-same-B

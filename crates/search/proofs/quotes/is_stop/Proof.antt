@@ -1,5 +1,5 @@
 -- `search::quotes::is_stop` meets its contract. Assumes nothing.
-use Rattle.search.proofs.Outside.{stops}
+use Rattle.search.proofs.Stopping.{stops}
 use Rattle.search.proofs.quotes.is_stop.Statement.{statement}
 use Rattle.search.proofs.quotes.is_stop.Tie as tie
 
