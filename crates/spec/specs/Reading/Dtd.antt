@@ -48,11 +48,12 @@ check-comment = choose (contains (ascii "--")) (refuse double-hyphen) nothing
 unfoldable pub parse-comment : Reader
 parse-comment = word "<!--" unexpected >> up-to "-->" unterminated check-comment
 
--- take_decl_body: the bytes before the first '>' outside quotes
+-- as many bytes as stand before a place, or refusal n where there is none
 abbrev pub bytes-before : Refusal → Place → Result
 bytes-before n (at k) = ok k
 bytes-before n nowhere = err n
 
+-- take_decl_body: the bytes before the first '>' outside quotes
 unfoldable pub take-decl-body : Reader
 take-decl-body w = bytes-before unterminated (outside (one-of ">") 0 w)
 
