@@ -10,11 +10,12 @@ use borrow.Author.Tests.{eqb-false}
 use lib.Dec.{eqb, ltb}
 use Rattle.spec.specs.Basics.{within}
 use Rattle.spec.specs.Grammar.AppendixB.{in-table, base-chars, ideographs, combining, digits, extenders, start-char, part-char}
+use Rattle.spec.proofs.Characters.AppendixB.{tables-ascend}
 use Rattle.spec.proofs.Base.Tests.{decide, leb-true, leb-false, eqb-true, eqb-no, within-high, and-left, and-right, or-cases}
 use Rattle.classes.specs.Classes.{dialect, letter, common-letter, ascii-start, ascii-part}
 use Rattle.classes.specs.declared.Names.{Names}
 use Rattle.classes.specs.declared.Names.the-variants.{AppendixB}
-use Rattle.classes.proofs.RangeLaws.{beyond, base-ascends, ideographs-ascend, combining-ascends, digits-ascend, extenders-ascend}
+use Rattle.classes.proofs.RangeLaws.{beyond}
 
 -- two tests agree on all numbers below n
 agree : ℕ → (ℕ → Bool) → (ℕ → Bool) → Bool
@@ -96,7 +97,7 @@ module _ (c : ℕ) where
 
   pub letter-beyond : 0xFFFF < c → false ≡ letter c
   unfolding letter
-  letter-beyond h = rw (beyond base-chars c 201 base-ascends refl (omega arith), beyond ideographs c 2 ideographs-ascend refl (omega arith))
+  letter-beyond h = let (base-up, ideographs-up, _, _, _) = tables-ascend in rw (beyond base-chars c 201 base-up refl (omega arith), beyond ideographs c 2 ideographs-up refl (omega arith))
 
 -- [4] NameStartChar and NameChar from 128 on, test by test
 module _ (c : ℕ) (high : 128 ≤ c) where
@@ -118,12 +119,8 @@ module _ (c : ℕ) (high : 128 ≤ c) where
     module _ (not : l ≡ false) where
       pub part-beyond : 0xFFFF < c → false ≡ part-char c
       part-beyond h =
-          (rw (
-            sym is ∙ not,
-            beyond digits c 14 digits-ascend refl (omega arith),
-            beyond combining c 94 combining-ascends refl (omega arith),
-            beyond extenders c 10 extenders-ascend refl (omega arith),
-          )) ∙ part-high
+          let (_, _, combining-up, digits-up, extenders-up) = tables-ascend in
+          (rw (sym is ∙ not, beyond digits c 14 digits-up refl (omega arith), beyond combining c 94 combining-up refl (omega arith), beyond extenders c 10 extenders-up refl (omega arith))) ∙ part-high
 
       module _ (d : Bool) (is-digit : d ≡ in-table digits c) where
         pub part-digit : d ≡ true → true ≡ part-char c

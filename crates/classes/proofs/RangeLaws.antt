@@ -1,4 +1,4 @@
--- The search in a table of range ends, for any table that ascends, and the tables of Appendix B. Assumes nothing.
+-- The search in a table of range ends, for any table that ascends. Assumes nothing.
 use mathlib.Core.Path.{_≡_, refl, sym}
 use mathlib.Core.Bool.{true, false, _&&_, true≢false, and-true, or-false}
 use mathlib.Core.List.{List, [], _∷_}
@@ -7,7 +7,7 @@ use native.Mathlib.Omega.{arith}
 use borrow.Author.Needs.{needs}
 use lib.Dec.{leb, ltb}
 use lib.ListN.{length, getD}
-use Rattle.spec.specs.Grammar.AppendixB.{in-table, ascending, base-chars, ideographs, combining, digits, extenders}
+use Rattle.spec.specs.Grammar.AppendixB.{in-table, ascending}
 use Rattle.spec.proofs.Base.Tests.{leb-yes, leb-true, and-left, and-right, within-low, within-high}
 
 -- the ranges of t ascend, from p on
@@ -91,27 +91,6 @@ module _ (t : List ℕ) (x : ℕ) (a : ascending t ≡ true) where
 pub beyond : (t : List ℕ) (x k : ℕ) → ascending t ≡ true → length t ≡ 2 * k + 2 → getD t (2 * k + 1) 0 < x → in-table t x ≡ false
 beyond t x k a n h =
     above x (rising t a) (λ j i. let r = ends-rise (rising t a) j k (omega arith) (omega arith) in omega arith)
-
--- the grammar's tables ascend, each by one computed test
-pub base-ascends : ascending base-chars ≡ true
-unfolding ascending
-base-ascends = refl
-
-pub ideographs-ascend : ascending ideographs ≡ true
-unfolding ascending
-ideographs-ascend = refl
-
-pub combining-ascends : ascending combining ≡ true
-unfolding ascending
-combining-ascends = refl
-
-pub digits-ascend : ascending digits ≡ true
-unfolding ascending
-digits-ascend = refl
-
-pub extenders-ascend : ascending extenders ≡ true
-unfolding ascending
-extenders-ascend = refl
 
 -- what the search and the classes search
 pub ruleset tables = (step-up, search-at, search-end, needs)

@@ -2,11 +2,11 @@
 -- is what the prover asks of every function: it ends, reads inside its texts and wraps no number, on all inputs.) Assumes nothing.
 use mathlib.Core.Path.{_≡_, refl}
 use mathlib.Core.Logic.{_↔_, _⊎_}
-use mathlib.Core.Bool.{_&&_}
+use mathlib.Core.Bool.{true, false, _&&_}
 use mathlib.Core.List.{List, _∷_, _++_}
-use Prim.Native.Nat.{ℕ, _+_, _≤_}
+use Prim.Native.Nat.{ℕ, _+_, _≤_, _<_}
 use lib.Dec.{eqb}
-use lib.ListN.{length, take}
+use lib.ListN.{length, take, drop}
 use Rattle.spec.specs.Grammar.AppendixB.{appendix-B}
 use Rattle.spec.specs.Grammar.Characters.{Chars}
 use Rattle.spec.specs.Grammar.Division.{Front, Division}
@@ -17,14 +17,14 @@ use Rattle.spec.specs.Grammar.XmlDecl.{XMLDecl}
 use Rattle.spec.specs.Promises.{Checks, Tells, Covered, expected}
 use Rattle.spec.specs.Reading.Checks.{check-declaration, is-ncname}
 use Rattle.spec.specs.Reading.Dtd.{check-doctype}
-use Rattle.spec.specs.Reading.Prolog.{doctype, doctype-end, next-item}
+use Rattle.spec.specs.Reading.Prolog.{declaration, doctype, doctype-end, next-item}
 use Rattle.spec.specs.Reading.Readers.{ok, err, Reader, nothing}
 use Rattle.spec.specs.Reading.Refusals.{Refusal}
 use Rattle.spec.specs.Reading.Places.{at}
 use Rattle.spec.specs.Reading.Scan.{scan}
 use Rattle.spec.specs.Reading.Source.{admit, checked}
-use Rattle.spec.specs.Reading.Stops.{passed, stopped, doctype-progress, stop-place}
-use Rattle.spec.specs.Reading.Wellformed.{check-chars, check-char-refs, check-text, check-attr-value, check-name}
+use Rattle.spec.specs.Reading.Stops.{passed, stopped, doctype-progress, stop-place, char-place}
+use Rattle.spec.specs.Reading.Wellformed.{illegal-here, check-chars, check-char-refs, check-text, check-attr-value, check-name}
 use Rattle.spec.specs.Rows.{rows}
 use Rattle.spec.specs.Grammar.Languages.{Lang, ascii, Star}
 use Rattle.spec.proofs.Agreement.Accepts.{promise, tells}
@@ -35,10 +35,11 @@ use Rattle.spec.proofs.Division.Places.{divided, apart, one-division}
 use Rattle.spec.proofs.Division.Promised.{cuts-covered}
 use Rattle.spec.proofs.Dtd.Depth.{met-exactly-B, deeper-same-B}
 use Rattle.spec.proofs.Dtd.Texts.{doctype-agrees}
-use Rattle.spec.proofs.Prolog.Handed.{doctype-handed}
+use Rattle.spec.proofs.Prolog.Handed.{doctype-handed, declaration-handed}
 use Rattle.spec.proofs.Prolog.Heads.{doctype-ends}
 use Rattle.spec.proofs.Rows
 use Rattle.spec.proofs.Rows.{All}
+use Rattle.spec.proofs.Stops.Chars.{chars-stop-at, chars-none-before}
 use Rattle.spec.proofs.Stops.Tracks.{stops-where-refused, passes-where-accepted, end-where-accepted}
 use Rattle.spec.proofs.Wellformed.Checks.{chars-agree, char-refs-agree, text-agree, attr-value-agree, name-agrees}
 use Rattle.spec.proofs.Wellformed.Names.{AsciiNames}
@@ -113,6 +114,13 @@ refused-stops = stops-where-refused appendix-B
 pub accepted-passes : (w : List ℕ) (k : ℕ) → check-doctype appendix-B w ≡ ok k → (doctype-progress appendix-B w ≡ passed k) × (stop-place appendix-B w ≡ length w)
 accepted-passes w k e = (passes-where-accepted appendix-B w k e, end-where-accepted appendix-B w k e)
 
+-- Where the characters are refused (18), an illegal one begins at the place that is told, and none before it.
+pub illegal-told : (w : List ℕ) (r : Refusal) → check-chars w ≡ err r → (illegal-here (drop (char-place w) w) ≡ true) × (char-place w ≤ length w)
+illegal-told = chars-stop-at
+
+pub legal-before : (w : List ℕ) (i : ℕ) → i < char-place w → illegal-here (drop i w) ≡ false
+legal-before = chars-none-before
+
 -- The command's part: of a text that demand 3 speaks of, the prolog's rule finds the end where it stands, and hands over that very text,
 -- whatever white space, comments and instructions stand before the DOCTYPE.
 pub doctype-found : (t r : List ℕ) → Covered appendix-B t → doctype-end (t ++ 62 ∷ r) ≡ at (length t)
@@ -121,3 +129,7 @@ doctype-found = doctype-ends appendix-B appendix-B-ascii
 pub doctype-handed-over : (m t r : List ℕ) → Star (Misc appendix-B) m → Covered appendix-B t
     → next-item (m ++ (ascii "<!DOCTYPE" ++ (t ++ (62 ∷ r)))) ≡ doctype (length m + 9) (length m + 9 + length t)
 doctype-handed-over = doctype-handed appendix-B appendix-B-ascii
+
+-- Of an XML declaration it hands over what stands between "<?" and "?>".
+pub declaration-handed-over : (t r : List ℕ) → XMLDecl t → next-item (ascii "<?" ++ (t ++ (ascii "?>" ++ r))) ≡ declaration 2 (2 + length t)
+declaration-handed-over = declaration-handed

@@ -1,7 +1,6 @@
 -- Appendix B's tables ascend, and its classes have XML's ASCII part, by computed tests. Assumes nothing.
-use mathlib.Core.Bool.{true, _&&_}
+use mathlib.Core.Bool.{true}
 use mathlib.Core.Path.{_≡_, refl}
-use lib.Dec.{T}
 use Rattle.spec.specs.Grammar.AppendixB.{base-chars, ideographs, combining, digits, extenders, in-table, ascending, start-char, part-char, appendix-B}
 use Rattle.spec.proofs.Agreement.Signs.{below, below-at}
 use Rattle.spec.proofs.Base.Tests.{alike, alike-same}
@@ -21,7 +20,7 @@ appendix-B-ascii = record {
   part-ascii = λ c h. alike-same (part-char c) (part-sign c) (below-at 128 (λ c. alike (part-char c) (part-sign c)) parts-alike c h);
 }
 
--- each table's ranges ascend and do not overlap: one computed test for each
-pub tables-ascend : T (ascending base-chars && ascending ideographs && ascending combining && ascending digits && ascending extenders)
+-- each table's ranges ascend and do not overlap: one computed test
+pub tables-ascend : (ascending base-chars ≡ true) × (ascending ideographs ≡ true) × (ascending combining ≡ true) × (ascending digits ≡ true) × (ascending extenders ≡ true)
 unfolding ascending
-tables-ascend = tt
+tables-ascend = (refl, refl, refl, refl, refl)
