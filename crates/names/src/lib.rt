@@ -65,7 +65,8 @@ fn decoded_end(s: &[u8], at: usize, names: Names) -> usize
     i
 }
 
-// The same, with the rest handed over as a part: whoever hands on a whole text copies it at each call, and most names never come here.
+// The same, with the rest handed over as a part: whoever hands on its own text first copies its place and length, which the processor
+// waits for, and most names never come here.
 fn rest_end(s: &[u8], at: usize, names: Names) -> usize
     ensures { λ r. ⌜ r ≡ at + taken (parts (dialect names) (drop at (now (s .entry)))) ⌝ }
 {

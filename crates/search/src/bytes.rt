@@ -53,7 +53,8 @@ pub fn find_byte(s: &[u8], at: usize, b: u8) -> Found
     Found::Nowhere
 }
 
-// The same, with the rest handed over as a part: whoever hands on a whole text copies it at each call.
+// The same, with the rest handed over as a part: whoever hands on its own text first copies its place and length, which the processor
+// waits for.
 pub fn find_in_rest(s: &[u8], at: usize, b: u8) -> Found
     ensures { λ r. ⌜ r ≡ first-place (b ∷ []) (now (s .entry)) at ⌝ }
 {

@@ -110,8 +110,8 @@ fn first_point(t: &[u8]) -> Point
     decode(a, byte_at(t, 1), byte_at(t, 2), byte_at(t, 3))
 }
 
-// The code point that stands at a place, and its width. The rest is handed over as a part, since whoever hands on a whole text copies it
-// at each call.
+// The code point that stands at a place, and its width. The rest is handed over as a part: whoever hands on its own text first copies its
+// place and length, which the processor waits for.
 pub fn code_point(s: &[u8], at: usize) -> Point
     ensures { λ r. ⌜ r ≡ seen (decode1 (drop at (now (s .entry)))) ⌝ }
 {
