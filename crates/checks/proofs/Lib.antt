@@ -1,4 +1,3 @@
-pub mod Deciding
 pub mod Valuing
 pub mod Equating
 pub mod Declaring

@@ -20,7 +20,7 @@ pub extern "C" fn moxkeldi_is_utf8(text: &[u8]) -> u8
 pub extern "C" fn moxkeldi_is_ncname(text: &[u8], yes: &mut bool) -> u8
     ensures { λ r. ⌜ Tells (NCName appendix-B) (now (text .entry)) r (now (yes .exit)) ⌝ }
 {
-    let verdict = checks::is_ncname(text);
+    let verdict = ncnames::is_ncname(text);
     *yes = verdict.yes;
     verdict.number
 }

@@ -12,7 +12,7 @@ pub fn reply(word: &[u8], text: &[u8]) -> Reply {
         return Reply::Verdict(verdict.number, verdict.yes);
     }
     if bytes::same(word, b"is_ncname") {
-        let verdict = checks::is_ncname(text);
+        let verdict = ncnames::is_ncname(text);
         return Reply::Verdict(verdict.number, verdict.yes);
     }
     if bytes::same(word, b"scan") {

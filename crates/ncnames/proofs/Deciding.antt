@@ -1,4 +1,4 @@
--- What the yes-or-no tests of checks.rs search. Assumes nothing.
+-- What the test of an NCName searches. Assumes nothing.
 use mathlib.Core.Path.{_≡_}
 use mathlib.Core.Bool.{Bool, _&&_, not}
 use mathlib.Core.List.{List, [], _∷_}

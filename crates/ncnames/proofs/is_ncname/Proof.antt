@@ -1,7 +1,7 @@
--- `checks::ncnames::is_ncname` meets its contract. Assumes nothing.
-use Rattle.checks.proofs.Deciding.{deciding}
-use Rattle.checks.proofs.ncnames.is_ncname.Statement.{statement}
-use Rattle.checks.proofs.ncnames.is_ncname.Tie as tie
+-- `ncnames::is_ncname` meets its contract. Assumes nothing.
+use Rattle.ncnames.proofs.Deciding.{deciding}
+use Rattle.ncnames.proofs.is_ncname.Statement.{statement}
+use Rattle.ncnames.proofs.is_ncname.Tie as tie
 
 pub is-ncname-spec : {M : Type 1} → statement M
 is-ncname-spec =
