@@ -54,9 +54,9 @@ pub chars-from : (s : List ℕ) → read (throughout legal-byte) s 0 ≡ read ch
 unfolding check-chars
 chars-from s = refl
 
-pub refs-from : (s : List ℕ) → read (throughout ref-or-byte) s 0 ≡ read check-char-refs s 0
+pub refs-from : (s : List ℕ) (at : ℕ) → read (throughout ref-or-byte) s at ≡ read check-char-refs s at
 unfolding check-char-refs
-refs-from s = refl
+refs-from s at = refl
 
 -- a text without a suspect byte
 pub calm-text : (s : List ℕ) (i : ℕ) (found : Bool) → length s ≤ i → (found ≡ false → i + away suspect (drop i s) ≡ 0 + away suspect (drop 0 s)) → found ≡ false → number-of (check-chars s) ≡ 0

@@ -51,7 +51,7 @@ plain-on k A B p h r = plain-choose (starts (ascii k)) A B p (no-word p (ascii k
 
 past-none : (x : Result) → past 0 x ≡ x
 past-none (ok k) = ap ok (zero-add k)
-past-none (err n) = refl
+past-none (err r n) = ap (err r) (zero-add n)
 
 -- so it takes a run of them one by one
 through-run : (R : Reader) (q : ℕ → Bool) → Somes R → Plain R q → (w : List ℕ) → throughout R w ≡ past (away q w) (throughout R (drop (away q w) w))

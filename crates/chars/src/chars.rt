@@ -44,7 +44,7 @@ pub fn next_byte(s: &[u8], i: usize) -> Answer
 }
 
 // Whether an illegal character begins here: 0xEF begins U+FFFE and U+FFFF, and legal characters too.
-pub fn is_illegal_at(s: &[u8], i: usize) -> bool
+fn is_illegal_at(s: &[u8], i: usize) -> bool
     ensures { λ r. ⌜ r ≡ illegal-here (drop i (now (s .entry))) ⌝ }
 {
     if s.len() <= i {
@@ -61,7 +61,7 @@ pub fn check_suspect_byte(s: &[u8], i: usize) -> Answer
     ensures { λ r. ⌜ r ≡ read legal-byte (now (s .entry)) i ⌝ }
 {
     if is_illegal_at(s, i) {
-        return Answer::No(error::ILLEGAL_CHAR);
+        return Answer::No(error::ILLEGAL_CHAR, i);
     }
     next_byte(s, i)
 }
@@ -80,7 +80,7 @@ fn any_suspect(text: &[u8]) -> bool
 }
 
 // The pass that decides where a suspect byte stands. It has no mark of its own: 0xEF is suspect anyway.
-fn walk_chars(text: &[u8]) -> Answer
+pub fn walk_chars(text: &[u8]) -> Answer
     ensures { λ r. ⌜ r ≡ read check-chars (now (text .entry)) 0 ⌝ }
 {
     let mut i: usize = 0;

@@ -14,9 +14,17 @@ ghost use Rattle.spec.specs.Reading.Readers.{number-of};
 ghost use Rattle.spec.specs.Reading.Wellformed.{reference, char-ref, ref-or-byte, check-char-refs};
 ghost use Rattle.error.specs.Read.{read};
 ghost use Rattle.chars.specs.Digits.{base, digit-of, past-points, Digits-read};
+ghost use Rattle.chars.specs.Found.{found, told};
 
 // The first number past all code points.
 const PAST_POINTS: u32 = 0x110000;
+
+// What stands at "&#": a reference and where it ends, or the number of what is wrong with it. Its place is the caller's: a place more to
+// carry through the loop over digits would make references slower by a tenth.
+pub enum Reference {
+    Ends(usize),
+    Bad(u8),
+}
 
 // Where digits end, and their value.
 struct Digits {
@@ -96,26 +104,26 @@ fn read_digits(s: &[u8], at: usize, hex: bool) -> Digits
 }
 
 // What follows "&#" or "&#x": a digit or more, then ';', and the value is that of a Char.
-fn check_digits(s: &[u8], at: usize, hex: bool) -> Answer
-    ensures { λ r. ⌜ r ≡ read (reference (base hex) (digit-of hex)) (now (s .entry)) at ⌝ }
+fn check_digits(s: &[u8], at: usize, hex: bool) -> Reference
+    ensures { λ r. ⌜ r ≡ found (read (reference (base hex) (digit-of hex)) (now (s .entry)) at) ⌝ }
 {
     let d = read_digits(s, at, hex);
     let end = d.end;
     if end == at {
-        return Answer::No(error::BAD_REFERENCE);
+        return Reference::Bad(error::BAD_REFERENCE);
     }
     if !at_keyword(s, end, b";") {
-        return Answer::No(error::BAD_REFERENCE);
+        return Reference::Bad(error::BAD_REFERENCE);
     }
     if is_xml_char(d.value) {
-        return Answer::At(end + 1);
+        return Reference::Ends(end + 1);
     }
-    Answer::No(error::ILLEGAL_REFERENCE)
+    Reference::Bad(error::ILLEGAL_REFERENCE)
 }
 
 // Production 66. Only a lower-case x introduces a hexadecimal reference.
-pub fn check_char_ref_at(s: &[u8], at: usize) -> Answer
-    ensures { λ r. ⌜ r ≡ read char-ref (now (s .entry)) at ⌝ }
+pub fn check_char_ref_at(s: &[u8], at: usize) -> Reference
+    ensures { λ r. ⌜ r ≡ found (read char-ref (now (s .entry)) at) ⌝ }
 {
     if at_keyword(s, at, b"&#x") {
         return check_digits(s, at + 3, true);
@@ -123,7 +131,17 @@ pub fn check_char_ref_at(s: &[u8], at: usize) -> Answer
     if at_keyword(s, at, b"&#") {
         return check_digits(s, at + 2, false);
     }
-    Answer::No(error::BAD_REFERENCE)
+    Reference::Bad(error::BAD_REFERENCE)
+}
+
+// A bad reference is refused where it begins.
+pub fn tell_reference(r: Reference, at: usize) -> Answer
+    ensures { λ a. ⌜ a ≡ told r at ⌝ }
+{
+    match r {
+        Reference::Ends(e) => Answer::At(e),
+        Reference::Bad(n) => Answer::No(n, at),
+    }
 }
 
 // '&' without '#' goes unchecked.
@@ -131,15 +149,17 @@ fn ref_or_byte(s: &[u8], i: usize) -> Answer
     ensures { λ r. ⌜ r ≡ read ref-or-byte (now (s .entry)) i ⌝ }
 {
     if at_keyword(s, i, b"&#") {
-        return check_char_ref_at(s, i);
+        let r = check_char_ref_at(s, i);
+        return tell_reference(r, i);
     }
     next_byte(s, i)
 }
 
-fn walk_char_refs(text: &[u8]) -> Answer
-    ensures { λ r. ⌜ r ≡ read check-char-refs (now (text .entry)) 0 ⌝ }
+// The references from `at` on.
+pub fn walk_char_refs(text: &[u8], at: usize) -> Answer
+    ensures { λ r. ⌜ r ≡ read check-char-refs (now (text .entry)) at ⌝ }
 {
-    let mut i: usize = 0;
+    let mut i = at;
     let mut calm: usize = 0;
     while i < text.len() {
         if is_special(b'&', text[i]) {
@@ -166,6 +186,6 @@ fn walk_char_refs(text: &[u8]) -> Answer
 pub fn char_refs_number(text: &[u8]) -> u8
     ensures { λ r. ⌜ r ≡ number-of (check-char-refs (now (text .entry))) ⌝ }
 {
-    let r = walk_char_refs(text);
+    let r = walk_char_refs(text, 0);
     number(r)
 }

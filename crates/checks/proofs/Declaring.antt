@@ -12,11 +12,13 @@ use Rattle.spec.specs.Reading.Dtd.{skip-s, require-s}
 use Rattle.spec.specs.Reading.Readers.{nothing, starts, run}
 use Rattle.spec.specs.Reading.Refusals.{number, no-space, unexpected}
 use Rattle.spec.proofs.Checks.XmlDecl.{declaration-agrees}
+use Rattle.spec.proofs.Inside.Checks.{declaration-placed}
 use Rattle.error.specs.Read.{read}
 use Rattle.error.specs.declared.Answer.{Answer}
 use Rattle.error.specs.declared.Answer.the-variants.{At, No}
 use Rattle.error.proofs.Laws.{seq-no, seq-at, choose-yes, choose-no, took-nothing}
 use Rattle.source.proofs.Admitting.{calling}
+use Rattle.source.proofs.Placing.{stopping}
 use Rattle.search.proofs.Words.{word-then}
 use Rattle.cursor.proofs.Eating.{eat-fits}
 use Rattle.cursor.proofs.Spaces.{skip-takes, required-none, required-some}
@@ -31,11 +33,11 @@ module _ (name : List ℕ) (test : List ℕ → Bool) (s : List ℕ) (at i : ℕ
   unfolding pseudo-attr-of
   pseudo-none f = choose-no _ _ nothing s at b (At at) named f (took-nothing s at)
 
-  pub pseudo-tight : b ≡ true → i ≡ at → No (number no-space) ≡ read (pseudo-attr-of name test) s at
+  pub pseudo-tight : b ≡ true → i ≡ at → No (number no-space) at ≡ read (pseudo-attr-of name test) s at
   unfolding pseudo-attr-of require-s
   pseudo-tight f z =
-      choose-yes _ _ nothing s at b (No (number no-space)) named f
-      (seq-no require-s _ s at (number no-space) (No (number no-space)) (required-none no-space skip-s s at _ i (skip-takes (drop at s)) h (number no-space) z refl) refl)
+      choose-yes _ _ nothing s at b (No (number no-space) at) named f
+      (seq-no require-s _ s at (number no-space) at (No (number no-space) at) (required-none no-space skip-s s at _ i (skip-takes (drop at s)) h (number no-space) z refl) refl)
 
   pub pseudo-there : (q : Answer) → b ≡ true → (i ≡ at → ⊥) → q ≡ read (parse-eq-quoted test) s (i + length name) → q ≡ read (pseudo-attr-of name test) s at
   unfolding pseudo-attr-of require-s
@@ -47,3 +49,5 @@ module _ (name : List ℕ) (test : List ℕ → Bool) (s : List ℕ) (at i : ℕ
 pub ruleset optional = (pseudo-none, pseudo-tight, pseudo-there, eat-fits, needs)
 
 pub ruleset declaring = (declaration-agrees, calling)
+
+pub ruleset located = (declaration-placed, stopping)

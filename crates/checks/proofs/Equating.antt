@@ -3,6 +3,7 @@ use mathlib.Core.Path.{_≡_, refl, sym, ap, _∙_}
 use mathlib.Core.Bool.{Bool, true, false}
 use mathlib.Core.List.{List}
 use Prim.Native.Nat.{ℕ, _+_, _-_, _^_, _<_, _≤_}
+use native.Mathlib.Nat.{add-zero}
 use native.Mathlib.Omega.{arith}
 use borrow.Author.Needs.{needs}
 use mir.Syntax.{w64}
@@ -15,12 +16,12 @@ use Rattle.spec.specs.Reading.Checks.{valued, parse-eq-quoted}
 use Rattle.spec.specs.Reading.Dtd.{skip-s, parse-quoted}
 use Rattle.spec.specs.Reading.Readers.{Result, Reader, _>>_, nothing, refuse, starts, choose, word, run}
 use Rattle.spec.specs.Reading.Refusals.{number, unexpected, bad-value}
-use Rattle.error.specs.Read.{read, eaten}
+use Rattle.error.specs.Read.{placed, read, eaten}
 use Rattle.error.specs.declared.Answer.{Answer}
 use Rattle.error.specs.declared.Answer.the-variants.{At, No}
 use Rattle.error.proofs.Laws.{At≢No, seq-no, seq-at}
 use Rattle.cursor.proofs.Quotes.{text-fits, text-last, text-start, text-inside, text-end, text-taken, text-refused, text-none}
-use Rattle.cursor.proofs.Reading.{skip-then, ate-last}
+use Rattle.cursor.proofs.Reading.{left-of, skip-then, ate-last}
 use Rattle.checks.specs.Pieces.{between, after-eq, eq-quoted}
 use Rattle.checks.specs.declared.declaration.Ends.{Ends}
 use Rattle.checks.specs.declared.declaration.Quoted.{Quoted}
@@ -32,11 +33,11 @@ module _ (s : List ℕ) (at i : ℕ) (r : Answer) (h : i ≡ at + run space (dro
   unfolding eq-quoted
   eq-read = rw (← h) (ap (after-eq s) (sym (ate-last (ascii "=") s i r unexpected a)))
 
-  pub eq-missing : (k : ℕ) → r ≡ No k → Refused (number unexpected) ≡ eq-quoted s at
+  pub eq-missing : (k l : ℕ) → r ≡ No k l → Refused (number unexpected) i ≡ eq-quoted s at
   unfolding eaten
-  eq-missing k e = go (starts (ascii "=") (drop i s)) a ∙ sym eq-read
+  eq-missing k l e = go (starts (ascii "=") (drop i s)) a ∙ sym eq-read
     where
-      go : (t : Bool) → r ≡ pick t (At (i + 1)) (No (number unexpected)) → Refused (number unexpected) ≡ after-eq s r
+      go : (t : Bool) → r ≡ pick t (At (i + 1)) (No (number unexpected) i) → Refused (number unexpected) i ≡ after-eq s r
       go true f = absurd (At≢No (sym f ∙ e))
       go false f = rw f
 
@@ -45,8 +46,8 @@ module _ (s : List ℕ) (at i : ℕ) (r : Answer) (h : i ≡ at + run space (dro
     eq-found : eq-quoted s at ≡ between opening p
     eq-found = eq-read ∙ ap (after-eq s) e ∙ (rw (← g, ← b))
 
-    pub eq-refused : (n : ℕ) → p ≡ No n → Refused n ≡ eq-quoted s at
-    eq-refused n f = sym (eq-found ∙ ap (between opening) f)
+    pub eq-refused : (n k : ℕ) → p ≡ No n k → Refused n k ≡ eq-quoted s at
+    eq-refused n k f = sym (eq-found ∙ ap (between opening) f)
 
     pub eq-value : (rest : ℕ) → p ≡ At rest → Value (record { start = opening + 1; end = rest - 1 }) ≡ eq-quoted s at
     eq-value rest f = sym (eq-found ∙ ap (between opening) f)
@@ -67,7 +68,7 @@ record Between (s : List ℕ) (at : ℕ) (v : Ends) : Type 0 where
 -- There is one, or what stands there is refused whatever the check of its text.
 data Equated (s : List ℕ) (at : ℕ) : Type 0 where
   is : (v : Ends) → eq-quoted s at ≡ Value v → Between s at v → Equated s at
-  none : (n : ℕ) → eq-quoted s at ≡ Refused n → ((check : List ℕ → Result) → No n ≡ read (eq-then (parse-quoted check)) s at) → Equated s at
+  none : (n k : ℕ) → eq-quoted s at ≡ Refused n k → ((check : List ℕ → Result) → No n k ≡ read (eq-then (parse-quoted check)) s at) → Equated s at
 
 equated : (s : List ℕ) (at : ℕ) → Equated s at
 unfolding eq-quoted
@@ -75,25 +76,25 @@ equated s at = by-sign (read (word "=" unexpected) s (at + run space (drop at s)
   where
     by-literal : (o : ℕ) → eq-quoted s at ≡ between o (read (parse-quoted nothing) s o) → ((P : Reader) → read P s o ≡ read (eq-then P) s at) → (x : Answer) → x ≡ read (parse-quoted nothing) s o → Equated s at
     by-literal o e on (At k) f = is _ (e ∙ ap (between o) (sym f)) (record { opening = o; rest = k; begins = refl; ends = refl; literal = f; onward = on })
-    by-literal o e on (No n) f = none n (e ∙ ap (between o) (sym f)) (λ check. text-none check s o n (No n) f refl ∙ on (parse-quoted check))
+    by-literal o e on (No n k) f = none n k (e ∙ ap (between o) (sym f)) (λ check. text-none check s o n k (No n k) f refl ∙ on (parse-quoted check))
 
     by-sign : (x : Answer) → x ≡ read (word "=" unexpected) s (at + run space (drop at s)) → Equated s at
     by-sign (At i) e =
         by-literal (i + run space (drop i s)) (ap (after-eq s) (sym e))
         (λ P. skip-then s at _ refl (word "=" unexpected >> skip-s >> P) _ (seq-at (word "=" unexpected) (skip-s >> P) s _ i (At i) _ e refl (skip-then s i _ refl P _ refl)))
         _ refl
-    by-sign (No n) e =
-        none n (ap (after-eq s) (sym e))
-        (λ check. skip-then s at _ refl (word "=" unexpected >> skip-s >> parse-quoted check) _ (seq-no (word "=" unexpected) (skip-s >> parse-quoted check) s _ n (No n) e refl))
+    by-sign (No n k) e =
+        none n k (ap (after-eq s) (sym e))
+        (λ check. skip-then s at _ refl (word "=" unexpected >> skip-s >> parse-quoted check) _ (seq-no (word "=" unexpected) (skip-s >> parse-quoted check) s _ n k (No n k) e refl))
 
 -- parse_value: q is what parse_eq_quoted answered
-pub value-none : (test : List ℕ → Bool) (s : List ℕ) (at n : ℕ) (q : Quoted) → q ≡ eq-quoted s at → q ≡ Refused n → No n ≡ read (parse-eq-quoted test) s at
+pub value-none : (test : List ℕ → Bool) (s : List ℕ) (at n i : ℕ) (q : Quoted) → q ≡ eq-quoted s at → q ≡ Refused n i → No n i ≡ read (parse-eq-quoted test) s at
 unfolding parse-eq-quoted
-value-none test s at n q a b = go (equated s at)
+value-none test s at n i q a b = go (equated s at)
   where
-    go : Equated s at → No n ≡ read (parse-eq-quoted test) s at
+    go : Equated s at → No n i ≡ read (parse-eq-quoted test) s at
     go (is v e x) = let z : _≡_ {A = ℕ} 0 1 = cc in absurd (omega arith)
-    go (none m e f) = let k : n ≡ m = cc in rw k (f (valued test))
+    go (none m j e f) = let k : n ≡ m = cc in let l : i ≡ j = cc in rw (k, l) (f (valued test))
 
 module _ (s : List ℕ) (at : ℕ) (q : Quoted) (v : Ends) (a : q ≡ eq-quoted s at) (b : q ≡ Value v) where
   value : Between s at v
@@ -101,7 +102,7 @@ module _ (s : List ℕ) (at : ℕ) (q : Quoted) (v : Ends) (a : q ≡ eq-quoted 
     where
       go : Equated s at → Between s at v
       go (is u e x) = let k : u ≡ v = cc in rw k at x
-      go (none n e f) = let z : _≡_ {A = ℕ} 0 1 = cc in absurd (omega arith)
+      go (none n k e f) = let z : _≡_ {A = ℕ} 0 1 = cc in absurd (omega arith)
 
   in-order : value .opening + 1 ≤ value .rest - 1
   in-order = text-start (value .rest) _ refl s (value .opening) (value .literal)
@@ -117,18 +118,27 @@ module _ (s : List ℕ) (at : ℕ) (q : Quoted) (v : Ends) (a : q ≡ eq-quoted 
 
   -- as the test t of its text says
   module _ (test : List ℕ → Bool) (t : Bool) (e : t ≡ test (take (v .end - v .start) (drop (v .start) s))) where
+    -- what the check of the value answers
+    checked : read (valued test) (take (value .rest - 1 - 0) (drop 0 s)) (value .opening + 1) ≡ pick t (At (v .start)) (No (number bad-value) (v .start))
+    unfolding read valued choose nothing refuse
+    checked = rw (left-of (value .opening + 1) (value .rest - 1) s, ← value .ends, ← value .begins, ← e) (go t)
+      where
+        go : (x : Bool) → placed (v .start) (pick x nothing (refuse bad-value) (take (v .end - v .start) (drop (v .start) s))) ≡ pick x (At (v .start)) (No (number bad-value) (v .start))
+        go true = rw add-zero
+        go false = rw add-zero
+
     pub value-taken : t ≡ true → At (v .end + 1) ≡ read (parse-eq-quoted test) s at
-    unfolding parse-eq-quoted valued choose nothing
+    unfolding parse-eq-quoted
     value-taken y =
         let z : v .end + 1 ≡ value .rest = omega (arith, value .ends, in-order) in
         ap At z
-        ∙ text-taken (value .rest) _ refl s (value .opening) (value .literal) (valued test) 0 (rw (← value .ends, ← value .begins, ← e, y)) refl
+        ∙ text-taken (value .rest) _ refl s (value .opening) (value .literal) (valued test) _ refl (v .start) (checked ∙ (rw y))
         ∙ value .onward (parse-quoted (valued test))
 
-    pub value-bad : t ≡ false → No (number bad-value) ≡ read (parse-eq-quoted test) s at
-    unfolding parse-eq-quoted valued choose refuse
+    pub value-bad : t ≡ false → No (number bad-value) (v .start) ≡ read (parse-eq-quoted test) s at
+    unfolding parse-eq-quoted
     value-bad y =
-        text-refused (value .rest) _ refl s (value .opening) (value .literal) (valued test) (number bad-value) (rw (← value .ends, ← value .begins, ← e, y)) (λ z. omega arith)
+        text-refused (value .rest) _ refl s (value .opening) (value .literal) (valued test) (No (number bad-value) (v .start)) (sym (checked ∙ (rw y))) (number bad-value) (v .start) refl
         ∙ value .onward (parse-quoted (valued test))
 
 -- what parse_eq_quoted searches, and what tests the value

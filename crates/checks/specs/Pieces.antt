@@ -17,12 +17,12 @@ use Rattle.checks.specs.declared.declaration.Quoted.the-variants.{Value,
 -- the text between the quotes of a literal, from its opening quote and what was read of it
 abbrev pub between : ℕ → Answer → Quoted
 between opening (At rest) = Value (record { start = opening + 1; end = rest - 1 })
-between opening (No n) = Refused n
+between opening (No n k) = Refused n k
 
 -- what is next after '=', from what was read of that
 abbrev pub after-eq : List ℕ → Answer → Quoted
 after-eq s (At i) = let opening = i + run space (drop i s) in between opening (read (parse-quoted nothing) s opening)
-after-eq s (No n) = Refused n
+after-eq s (No n k) = Refused n k
 
 -- what parse_eq_quoted finds at a place: white space, '=', white space, a literal
 unfoldable pub eq-quoted : List ℕ → ℕ → Quoted

@@ -11,13 +11,16 @@ use error::ACCEPTED;
 use error::Answer;
 use error::BAD_VALUE;
 use error::NO_SPACE;
+use error::Stop;
 use error::UNEXPECTED;
 use error::number;
+use error::stopped;
 use search::at_keyword;
 use source::admit;
+use source::admit_at;
 ghost use mathlib.Core.Path.{_≡_};
 ghost use Rattle.spec.specs.Grammar.XmlDecl.{XMLDecl};
-ghost use Rattle.spec.specs.Promises.{Checks};
+ghost use Rattle.spec.specs.Promises.{Checks, Stops};
 ghost use Rattle.spec.specs.Reading.Checks.{parse-eq-quoted, check-declaration};
 ghost use Rattle.spec.specs.Reading.Dtd.{require-s};
 ghost use Rattle.spec.specs.Reading.Readers.{number-of};
@@ -31,10 +34,10 @@ pub struct Ends {
     pub end: usize,
 }
 
-// What parse_eq_quoted finds: a value, or the number of the refusal.
+// What parse_eq_quoted finds: a value, or the number of the refusal and its place.
 pub enum Quoted {
     Value(Ends),
-    Refused(u8),
+    Refused(u8, usize),
 }
 
 // S before 'version'
@@ -51,7 +54,7 @@ fn parse_eq_quoted(s: &[u8], at: usize) -> Quoted
     let i = skip_s(s, at);
     let r = eat_str(s, i, b"=", UNEXPECTED);
     let Answer::At(i) = r else {
-        return Quoted::Refused(UNEXPECTED);
+        return Quoted::Refused(UNEXPECTED, i);
     };
     let open = skip_s(s, i);
     let r = parse_quoted(s, open);
@@ -60,7 +63,7 @@ fn parse_eq_quoted(s: &[u8], at: usize) -> Quoted
             start: open + 1,
             end: rest - 1,
         }),
-        Answer::No(n) => Quoted::Refused(n),
+        Answer::No(n, k) => Quoted::Refused(n, k),
     }
 }
 
@@ -76,9 +79,9 @@ fn parse_value(s: &[u8], at: usize, kind: Kind) -> Answer
             if is_value(&s[start..end], kind) {
                 return Answer::At(end + 1);
             }
-            Answer::No(BAD_VALUE)
+            Answer::No(BAD_VALUE, start)
         }
-        Quoted::Refused(n) => Answer::No(n),
+        Quoted::Refused(n, k) => Answer::No(n, k),
     }
 }
 
@@ -90,7 +93,7 @@ fn pseudo_attr(s: &[u8], at: usize, name: &[u8], kind: Kind) -> Answer
     let i = skip_s(s, at);
     if at_keyword(s, i, name) {
         if i == at {
-            return Answer::No(NO_SPACE);
+            return Answer::No(NO_SPACE, at);
         }
         return parse_value(s, i + name.len(), kind);
     }
@@ -153,4 +156,15 @@ pub fn check_declaration(text: &[u8]) -> u8
         return n;
     }
     declaration_number(text)
+}
+
+pub fn check_declaration_at(text: &[u8]) -> Stop
+    ensures { λ r. ⌜ Stops check-declaration (now (text .entry)) (r .number) (r .place) ⌝ }
+{
+    let a = admit_at(text);
+    let Answer::At(_) = a else {
+        return stopped(a);
+    };
+    let r = parse_declaration(text);
+    stopped(r)
 }

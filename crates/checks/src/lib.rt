@@ -3,4 +3,5 @@ mod declaration;
 mod values;
 
 pub use declaration::check_declaration;
+pub use declaration::check_declaration_at;
 pub use declaration::declaration_number;

@@ -11,10 +11,13 @@ use error::UNTERMINATED;
 use gate::Gate;
 use gate::Reply;
 use prolog::Item;
+use search::at_keyword;
 use utf8::Point;
 
-// The lengths of `<?` and `?>`, of `<!DOCTYPE`, and of `>`.
+// The lengths of `<?` and `?>`, of `<!--`, of `<!DOCTYPE`, and of `>`.
 const MARK: usize = 2;
+
+const COMMENT: usize = 4;
 
 const WORD: usize = 9;
 
@@ -68,7 +71,7 @@ fn turn_at(text: &[u8], whole: bool, gate: Gate, at: usize) -> Turn {
         Item::Declaration(a, b) => declaration(text, gate, a, b),
         Item::Doctype(a, b) => doctype(text, gate, a, b),
         Item::Other(a) => Turn::Done(root(text, whole, gate.seen, a)),
-        Item::CutOff(a) => Turn::Done(Verdict::Refused(cut(whole), a)),
+        Item::CutOff(a) => Turn::Done(cut_off(text, whole, a)),
         Item::CutDoctype(a) => Turn::Done(cut_doctype(text, whole, gate, a)),
     }
 }
@@ -104,9 +107,18 @@ fn foreign(text: &[u8], a: usize) -> u8 {
     }
 }
 
-// The number for something that does not end in the held bytes: in a file that goes on it is too long to be looked at.
-fn cut(whole: bool) -> u8 {
-    if whole { UNTERMINATED } else { TOO_LONG }
+// A comment, an instruction or a declaration that begins at `a` and does not end in the held bytes: in a file that goes on it is too
+// long to be looked at.
+fn cut_off(text: &[u8], whole: bool, a: usize) -> Verdict {
+    if !whole {
+        return Verdict::Refused(TOO_LONG, a);
+    }
+    let sign = if at_keyword(text, a, b"<!--") {
+        COMMENT
+    } else {
+        MARK
+    };
+    Verdict::Refused(UNTERMINATED, bytes::forth(text, a, sign))
 }
 
 fn declaration(text: &[u8], gate: Gate, a: usize, b: usize) -> Turn {
@@ -117,12 +129,22 @@ fn declaration(text: &[u8], gate: Gate, a: usize, b: usize) -> Turn {
         open: gate.open,
         refused: gate.refused,
     };
-    let declared = gate::decl_step(before, bytes::between(text, a, b));
-    if declared.number != ACCEPTED {
-        return Turn::Done(Verdict::Refused(declared.number, bytes::back(a, MARK)));
+    let part = bytes::between(text, a, b);
+    let declared = gate::decl_step(before, part);
+    let number = declared.number;
+    if number != ACCEPTED {
+        return Turn::Done(Verdict::Refused(number, place_in_declaration(text, number, part, a)));
     }
     let after = declared.gate;
     Turn::On(after, bytes::forth(text, b, MARK))
+}
+
+// Where in an XML declaration, whose text `part` begins at `a`, a refusal lies. What is wrong with the whole of it stands at its beginning.
+fn place_in_declaration(text: &[u8], number: u8, part: &[u8], a: usize) -> usize {
+    match number {
+        TOO_LONG | OUT_OF_ORDER => bytes::back(a, MARK),
+        _ => bytes::forth(text, a, checks::check_declaration_at(part).place),
+    }
 }
 
 fn doctype(text: &[u8], gate: Gate, a: usize, b: usize) -> Turn {
@@ -131,7 +153,7 @@ fn doctype(text: &[u8], gate: Gate, a: usize, b: usize) -> Turn {
     let reply = docked.reply;
     let number = number_of(reply);
     if number != ACCEPTED {
-        return Turn::Done(Verdict::Refused(number, place(text, number, part, a)));
+        return Turn::Done(Verdict::Refused(number, place_in_doctype(text, number, part, a)));
     }
     let after = docked.gate;
     Turn::On(after, bytes::forth(text, b, CLOSE))
@@ -145,12 +167,12 @@ fn number_of(reply: Reply) -> u8 {
     }
 }
 
-// Where in a DOCTYPE, whose text `part` begins at `a`, a refusal lies. What is wrong with the whole of it stands at its beginning.
-fn place(text: &[u8], number: u8, part: &[u8], a: usize) -> usize {
+// The same for a DOCTYPE. The gate looks at its characters first.
+fn place_in_doctype(text: &[u8], number: u8, part: &[u8], a: usize) -> usize {
     match number {
-        TOO_LONG | NOT_UTF8 | OUT_OF_ORDER => bytes::back(a, WORD),
-        ILLEGAL_CHAR => bytes::forth(text, a, stops::char_stop(part)),
-        _ => bytes::forth(text, a, stops::doctype_stop(part)),
+        TOO_LONG | OUT_OF_ORDER => bytes::back(a, WORD),
+        NOT_UTF8 | ILLEGAL_CHAR => bytes::forth(text, a, chars::check_chars_at(part).place),
+        _ => bytes::forth(text, a, dtd::check_doctype_at(part).place),
     }
 }
 
@@ -167,8 +189,17 @@ fn cut_doctype(text: &[u8], whole: bool, gate: Gate, a: usize) -> Verdict {
     let number = number_of(reply);
     match number {
         TOO_LONG | NOT_UTF8 | ILLEGAL_CHAR | OUT_OF_ORDER => {
-            Verdict::Refused(number, place(text, number, part, from))
+            Verdict::Refused(number, place_in_doctype(text, number, part, from))
         }
-        _ => Verdict::Refused(UNTERMINATED, a),
+        _ => Verdict::Refused(UNTERMINATED, cut_place(text, part, from)),
     }
+}
+
+// Directly behind the sign that opened what does not end, as far as the grammar tells; else behind `<!DOCTYPE`.
+fn cut_place(text: &[u8], part: &[u8], from: usize) -> usize {
+    let stop = dtd::check_doctype_at(part);
+    if stop.number == UNTERMINATED {
+        return bytes::forth(text, from, stop.place);
+    }
+    from
 }

@@ -5,7 +5,7 @@ use crate::words;
 use libc::STDOUT_FILENO;
 use utf8::Point;
 
-// At most so many bytes of what is refused are shown.
+// At most so many bytes of a line are shown before a place, and after it.
 const SHOWN: usize = 120;
 
 // Says the verdict on the file of this name, and answers whether it could be written.
@@ -22,7 +22,7 @@ fn spell(out: &mut [u8], to: usize, text: &[u8], verdict: Verdict, verbose: bool
         Verdict::Refused(number, at) => {
             let n = refused(out, to, text, number, at);
             if verbose {
-                return shown(out, n, bytes::rest(text, at));
+                return shown(out, n, text, at);
             }
             n
         }
@@ -62,14 +62,36 @@ fn numbered(out: &mut [u8], to: usize, number: u8) -> usize {
     bytes::put(out, n, b'\n')
 }
 
-// Puts what is refused, as far as its line goes, and a caret under its first character.
-fn shown(out: &mut [u8], at: usize, entry: &[u8]) -> usize {
-    let n = bytes::append(out, at, b"    ");
-    let n = visible(out, n, entry);
-    bytes::append(out, n, b"\n    ^\n")
+// Puts the line in which something is refused, and a caret under the place.
+fn shown(out: &mut [u8], to: usize, text: &[u8], at: usize) -> usize {
+    let before = bytes::between(text, line_start(text, at), at);
+    let n = bytes::append(out, to, b"    ");
+    let n = visible(out, n, before, false);
+    let n = visible(out, n, bytes::rest(text, at), false);
+    let n = bytes::append(out, n, b"\n    ");
+    let n = visible(out, n, before, true);
+    bytes::append(out, n, b"^\n")
 }
 
-fn visible(out: &mut [u8], at: usize, entry: &[u8]) -> usize {
+// Where the line of the place begins, or as far before the place as is shown.
+fn line_start(text: &[u8], at: usize) -> usize {
+    let mut start = bytes::back(at, SHOWN);
+    let mut i = start;
+    while i < text.len() {
+        if at <= i {
+            return start;
+        }
+        let b = text[i];
+        i += 1;
+        if ends_line(b) {
+            start = i;
+        }
+    }
+    start
+}
+
+// Puts the characters of a part up to the end of its line, or a blank for each.
+fn visible(out: &mut [u8], at: usize, entry: &[u8], blank: bool) -> usize {
     let mut n = at;
     let mut i = 0;
     while i < entry.len() {
@@ -81,7 +103,7 @@ fn visible(out: &mut [u8], at: usize, entry: &[u8]) -> usize {
         if next <= i {
             return n;
         }
-        n = character(out, n, bytes::between(entry, i, next));
+        n = character(out, n, bytes::between(entry, i, next), blank);
         i = next;
     }
     n
@@ -100,7 +122,10 @@ fn width(text: &[u8], at: usize) -> usize {
 }
 
 // Puts a character, or a '.' for one that would act on the terminal and for a byte that is no character.
-fn character(out: &mut [u8], at: usize, part: &[u8]) -> usize {
+fn character(out: &mut [u8], at: usize, part: &[u8], blank: bool) -> usize {
+    if blank {
+        return bytes::put(out, at, b' ');
+    }
     match utf8::code_point(part, 0) {
         Point::Is(c, _) => {
             if is_control(c) {

@@ -1,19 +1,30 @@
 -- Checks of the text of a literal: public identifiers and attribute values. Assumes nothing.
-use mathlib.Core.Path.{_≡_, sym, _∙_}
-use mathlib.Core.Bool.{Bool, true, false, _&&_, _||_, or-false, or-assoc}
+use mathlib.Core.Path.{_≡_, ap, _∙_}
+use mathlib.Core.Bool.{Bool, false, _&&_, _||_, or-false, or-assoc}
 use mathlib.Core.List.{List}
 use Prim.Native.Nat.{ℕ, _+_, _<_, _≤_}
+use native.Mathlib.Nat.{add-zero}
+use native.Mathlib.Omega.{arith}
 use borrow.Author.Needs.{needs}
 use lib.Dec.{eqb, leb}
-use lib.ListN.{length, getD, drop}
+use lib.ListN.{length, getD, drop, length-drop}
 use Rattle.spec.specs.Grammar.Languages.{ascii}
 use Rattle.spec.specs.Grammar.Literals.{pubid-char}
-use Rattle.spec.specs.Reading.Checks.{all-of}
 use Rattle.spec.specs.Reading.Refusals.{number, bad-pubid, less-than}
-use Rattle.spec.specs.Reading.Readers.{number-of, refuse, choose, run, contains}
+use Rattle.spec.specs.Reading.Readers.{choose, run, refuse-at}
 use Rattle.spec.specs.Reading.Wellformed.{check-char-refs}
 use Rattle.spec.specs.Reading.Dtd.{check-pubid, check-att-value}
-use Rattle.cursor.proofs.Spaces.{class-go, all-not, all-passed}
+use Rattle.spec.proofs.Base.Places.{run-within}
+use Rattle.spec.proofs.Base.Tests.{eqb-yes, eqb-no}
+use Rattle.error.specs.Read.{read}
+use Rattle.error.specs.declared.Answer.{Answer}
+use Rattle.error.specs.declared.Answer.the-variants.{At, No}
+use Rattle.search.specs.FirstPlace.{first-place}
+use Rattle.search.specs.declared.places.Found.{Found}
+use Rattle.search.specs.declared.places.Found.the-variants.{Here, Nowhere}
+use Rattle.search.proofs.Finding.{was-nowhere, was-here, places-found}
+use Rattle.search.proofs.Runs.{run-end}
+use Rattle.cursor.proofs.Spaces.{class-go, class-stop}
 
 -- the tests in the order of the production
 pub pubid-is : (b : ℕ)
@@ -24,24 +35,29 @@ unfolding pubid-char
 pubid-is b = simp (or-false, or-assoc)
 
 -- the bytes of a public identifier, of which i is the next place
-module _ (t : List ℕ) (i : ℕ) (inv : i + run pubid-char (drop i t) ≡ 0 + run pubid-char (drop 0 t)) where
-  pub pubid-bad : (r : Bool) → i < length t → r ≡ pubid-char (getD t i 0) → r ≡ false → number bad-pubid ≡ number-of (check-pubid t)
-  unfolding check-pubid all-of
-  pubid-bad r h e n = rw (sym (all-not pubid-char t i inv r h e n))
+module _ (t : List ℕ) (at i : ℕ) (inv : i + run pubid-char (drop i t) ≡ at + run pubid-char (drop at t)) where
+  pub pubid-bad : (r : Bool) → i < length t → r ≡ pubid-char (getD t i 0) → r ≡ false → No (number bad-pubid) i ≡ read check-pubid t at
+  unfolding read check-pubid
+  pubid-bad r h e n =
+      let z : i ≡ at + run pubid-char (drop at t) = class-stop pubid-char t at i inv h r e n in
+      rw (eqb-no (run pubid-char (drop at t)) (length (drop at t)) (λ (f : run pubid-char (drop at t) ≡ length (drop at t)). omega (arith, length-drop at t))) (ap (No (number bad-pubid)) z)
 
-  pub pubid-good : length t ≤ i → i ≤ length t → 0 ≡ number-of (check-pubid t)
-  unfolding check-pubid all-of
-  pubid-good h g = rw (sym (all-passed pubid-char t i inv h g))
+  pub pubid-good : length t ≤ i → At at ≡ read check-pubid t at
+  unfolding read check-pubid
+  pubid-good h =
+      let z : i ≡ at + run pubid-char (drop at t) = run-end pubid-char t at i inv h in
+      let y = run-within pubid-char (drop at t) in
+      rw (eqb-yes (run pubid-char (drop at t)) (length (drop at t)) (omega (arith, length-drop at t)), add-zero)
 
--- '<' in the text t, as b says
-module _ (t : List ℕ) (b : Bool) (e : b ≡ contains (ascii "<") t) where
-  pub value-less : b ≡ true → number less-than ≡ number-of (check-att-value t)
-  unfolding check-att-value choose refuse
-  value-less y = rw (sym e ∙ y)
+-- the first '<' in the text t, as r says
+module _ (t : List ℕ) (at : ℕ) (r : Found) (e : r ≡ first-place (ascii "<") t at) where
+  pub value-less : (j : ℕ) → r ≡ Here j → No (number less-than) j ≡ read check-att-value t at
+  unfolding read check-att-value choose refuse-at
+  value-less j y = let (c, l) = was-here (ascii "<") t at r e j y in rw (c, l)
 
-  pub value-refs : (m : ℕ) → b ≡ false → m ≡ number-of (check-char-refs t) → m ≡ number-of (check-att-value t)
-  unfolding check-att-value choose
-  value-refs m n f = f ∙ (rw (sym e ∙ n))
+  pub value-refs : (q : Answer) → r ≡ Nowhere → q ≡ read check-char-refs t at → q ≡ read check-att-value t at
+  unfolding read check-att-value choose
+  value-refs q n f = f ∙ (rw (was-nowhere (ascii "<") t at r e n))
 
 -- what the checks search
-pub ruleset checking = (pubid-is, class-go, pubid-bad, pubid-good, value-less, value-refs, needs)
+pub ruleset checking = (pubid-is, class-go, pubid-bad, pubid-good, value-less, value-refs, places-found, needs)

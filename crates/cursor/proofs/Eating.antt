@@ -22,7 +22,7 @@ module _ (kw s : List ℕ) (at : ℕ) (b : Bool) (e : b ≡ starts kw (drop at s
   unfolding eaten
   eat-yes n f = rw (sym e ∙ f)
 
-  pub eat-no : (n : ℕ) → b ≡ false → No n ≡ eaten kw n s at
+  pub eat-no : (n : ℕ) → b ≡ false → No n at ≡ eaten kw n s at
   unfolding eaten
   eat-no n f = rw (sym e ∙ f)
 
@@ -39,9 +39,9 @@ pub end-yes : (n : Refusal) (s : List ℕ) (at : ℕ) → length s ≤ at → At
 unfolding read at-end
 end-yes n s at h = rw (drop-end s at h, add-zero)
 
-pub end-no : (n : Refusal) (m : ℕ) (s : List ℕ) (at : ℕ) → at < length s → m ≡ number n → No m ≡ read (at-end n) s at
+pub end-no : (n : Refusal) (m : ℕ) (s : List ℕ) (at : ℕ) → at < length s → m ≡ number n → No m at ≡ read (at-end n) s at
 unfolding read at-end
-end-no n m s at h e = rw (drop-at s at h, e)
+end-no n m s at h e = rw (drop-at s at h, e, add-zero)
 
 -- what eat_str and at_end search
 pub ruleset eating = (eat-yes, eat-no, eat-fits, end-yes, end-no, needs)

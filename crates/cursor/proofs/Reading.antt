@@ -1,18 +1,24 @@
 -- White space inside a chain of readers, and all that a chain searches. Assumes nothing.
 use mathlib.Core.Path.{_≡_, refl}
 use mathlib.Core.List.{List}
-use Prim.Native.Nat.{ℕ, _+_}
+use Prim.Native.Nat.{ℕ, _+_, _-_}
+use native.Mathlib.Omega.{arith}
 use borrow.Author.Needs.{needs}
-use lib.ListN.{drop}
+use lib.ListN.{take, drop}
 use Rattle.spec.specs.Grammar.Characters.{space}
 use Rattle.spec.specs.Reading.Refusals.{Refusal, number}
 use Rattle.spec.specs.Reading.Readers.{Reader, _>>_, word-of, run}
 use Rattle.spec.specs.Reading.Dtd.{skip-s}
+use Rattle.spec.proofs.Base.Places.{drop-take}
 use Rattle.error.specs.Read.{read, eaten}
 use Rattle.error.specs.declared.Answer.{Answer}
 use Rattle.error.specs.declared.Answer.the-variants.{At, No}
 use Rattle.error.proofs.Laws.{seq-no, seq-at, seq-take, choose-yes, choose-no, refused, took-nothing, ate, ate-then, ate-only, ate-not}
 use Rattle.cursor.proofs.Spaces.{skip-takes}
+
+-- what is left at a place of the front part of a text, as code cuts it
+pub left-of : (i n : ℕ) (s : List ℕ) → drop i (take (n - 0) (drop 0 s)) ≡ take (n - i) (drop i s)
+left-of i n s = let z : n - 0 ≡ n = omega arith in rw z (drop-take i n s)
 
 -- e is what skip_s gave at a place
 module _ (s : List ℕ) (at e : ℕ) (h : e ≡ at + run space (drop at s)) where
@@ -32,8 +38,8 @@ module _ (kw : List ℕ) (s : List ℕ) (at : ℕ) (r : Answer) (n : Refusal) (a
   pub ate-next : (B : Reader) (i : ℕ) (q : Answer) → r ≡ At i → q ≡ read B s i → q ≡ read (word-of kw n >> B) s at
   ate-next B i q e b = seq-at (word-of kw n) B s at i r q ate-last e b
 
-  pub ate-stop : (B : Reader) (k : ℕ) → r ≡ No k → r ≡ read (word-of kw n >> B) s at
-  ate-stop B k e = seq-no (word-of kw n) B s at k r ate-last e
+  pub ate-stop : (B : Reader) (k i : ℕ) → r ≡ No k i → r ≡ read (word-of kw n >> B) s at
+  ate-stop B k i e = seq-no (word-of kw n) B s at k i r ate-last e
 
 -- What code that reads one thing after another searches: of laws with as many premises the first is tried first. Six readers are found.
 pub ruleset reading =

@@ -3,6 +3,7 @@ use mathlib.Core.Path.{_≡_, refl, sym, _∙_}
 use mathlib.Core.Bool.{Bool, true, false, _||_, or-false, or-assoc}
 use mathlib.Core.List.{List}
 use Prim.Native.Nat.{ℕ, _+_, _<_, _≤_}
+use native.Mathlib.Nat.{add-zero}
 use native.Mathlib.Omega.{arith}
 use borrow.Author.Needs.{needs}
 use lib.Dec.{eqb}
@@ -48,9 +49,9 @@ skip-takes w = refl
 
 -- R takes k bytes at a place, up to e
 module _ (n : Refusal) (R : Reader) (s : List ℕ) (at k e : ℕ) (r : R (drop at s) ≡ ok k) (h : e ≡ at + k) where
-  pub required-none : (m : ℕ) → e ≡ at → m ≡ number n → No m ≡ read (required n R) s at
+  pub required-none : (m : ℕ) → e ≡ at → m ≡ number n → No m at ≡ read (required n R) s at
   unfolding read required
-  required-none m z f = let y : k ≡ 0 = omega arith in rw (r, eqb-yes k 0 y, f)
+  required-none m z f = let y : k ≡ 0 = omega arith in rw (r, eqb-yes k 0 y, f, add-zero)
 
   pub required-some : (e ≡ at → ⊥) → At e ≡ read (required n R) s at
   unfolding read required

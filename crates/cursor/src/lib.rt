@@ -4,7 +4,6 @@ mod space;
 mod tokens;
 mod words;
 
-pub use literals::check_pubid;
 pub use literals::parse_att_value;
 pub use literals::parse_entity_value;
 pub use literals::parse_external_id;

@@ -2,8 +2,7 @@
 // parse_att_value do with the text between the quotes, of dtd.rs.
 use crate::space::require_s;
 use crate::words::eat_str;
-use chars::char_refs_number;
-use error::ACCEPTED;
+use chars::walk_char_refs;
 use error::Answer;
 use error::BAD_PUBID;
 use error::LESS_THAN;
@@ -12,31 +11,31 @@ use error::UNEXPECTED;
 use error::UNTERMINATED;
 use search::Found;
 use search::find_byte;
-use search::has_byte;
 ghost use mathlib.Core.Path.{_≡_};
 ghost use Rattle.spec.specs.Grammar.Literals.{pubid-char};
-ghost use Rattle.spec.specs.Reading.Readers.{number-of, nothing};
+ghost use Rattle.spec.specs.Reading.Readers.{nothing};
 ghost use Rattle.spec.specs.Reading.Wellformed.{check-char-refs};
 ghost use Rattle.spec.specs.Reading.Dtd.{parse-quoted, check-pubid, parse-external-id, check-att-value};
 ghost use Rattle.error.specs.Read.{read};
 ghost use Rattle.cursor.specs.Spaced.{spaced-literal};
 
-// A literal in either quote, [11] SystemLiteral; its text is not looked at.
+// A literal in either quote, [11] SystemLiteral; its text is not looked at. One without its end is refused behind its opening quote.
 pub fn parse_quoted(s: &[u8], at: usize) -> Answer
     ensures { λ r. ⌜ r ≡ read (parse-quoted nothing) (now (s .entry)) at ⌝ }
 {
     if s.len() <= at {
-        return Answer::No(NO_LITERAL);
+        return Answer::No(NO_LITERAL, at);
     }
     let q = s[at];
     if (q == b'"') | (q == b'\'') {
-        let r = find_byte(s, at + 1, q);
+        let from = at + 1;
+        let r = find_byte(s, from, q);
         let Found::Here(e) = r else {
-            return Answer::No(UNTERMINATED);
+            return Answer::No(UNTERMINATED, from);
         };
         return Answer::At(e + 1);
     }
-    Answer::No(NO_LITERAL)
+    Answer::No(NO_LITERAL, at)
 }
 
 // Production 13, PubidChar.
@@ -70,29 +69,30 @@ fn is_pubid_char(b: u8) -> bool
         | (b'a' <= b) & (b <= b'z')
 }
 
-// check_pubid: each byte is a PubidChar. The text of a literal has no quote mark of its own.
-pub fn check_pubid(t: &[u8]) -> u8
-    ensures { λ r. ⌜ r ≡ number-of (check-pubid (now (t .entry))) ⌝ }
+// check_pubid: each byte from `at` on is a PubidChar. The text of a literal has no quote mark of its own.
+fn check_pubid(t: &[u8], at: usize) -> Answer
+    ensures { λ r. ⌜ r ≡ read check-pubid (now (t .entry)) at ⌝ }
 {
-    let mut i: usize = 0;
+    let mut i = at;
     while i < t.len() {
         if is_pubid_char(t[i]) {
             i += 1;
         } else {
-            return BAD_PUBID;
+            return Answer::No(BAD_PUBID, i);
         }
     }
-    ACCEPTED
+    Answer::At(at)
 }
 
 // What parse_att_value does with a default: '<' first, then the references.
-fn check_att_value(t: &[u8]) -> u8
-    ensures { λ r. ⌜ r ≡ number-of (check-att-value (now (t .entry))) ⌝ }
+fn check_att_value(t: &[u8], at: usize) -> Answer
+    ensures { λ r. ⌜ r ≡ read check-att-value (now (t .entry)) at ⌝ }
 {
-    if has_byte(t, b'<') {
-        return LESS_THAN;
-    }
-    char_refs_number(t)
+    let r = find_byte(t, at, b'<');
+    let Found::Here(j) = r else {
+        return walk_char_refs(t, at);
+    };
+    Answer::No(LESS_THAN, j)
 }
 
 // [12] PubidLiteral.
@@ -103,11 +103,11 @@ pub fn parse_pubid(s: &[u8], at: usize) -> Answer
     let Answer::At(e) = r else {
         return r;
     };
-    let n = check_pubid(&s[at + 1..e - 1]);
-    if n == ACCEPTED {
-        return Answer::At(e);
-    }
-    Answer::No(n)
+    let c = check_pubid(&s[0..e - 1], at + 1);
+    let Answer::At(_) = c else {
+        return c;
+    };
+    Answer::At(e)
 }
 
 // [9] EntityValue, whose character references are checked.
@@ -118,11 +118,11 @@ pub fn parse_entity_value(s: &[u8], at: usize) -> Answer
     let Answer::At(e) = r else {
         return r;
     };
-    let n = char_refs_number(&s[at + 1..e - 1]);
-    if n == ACCEPTED {
-        return Answer::At(e);
-    }
-    Answer::No(n)
+    let c = walk_char_refs(&s[0..e - 1], at + 1);
+    let Answer::At(_) = c else {
+        return c;
+    };
+    Answer::At(e)
 }
 
 // [10] AttValue.
@@ -133,11 +133,11 @@ pub fn parse_att_value(s: &[u8], at: usize) -> Answer
     let Answer::At(e) = r else {
         return r;
     };
-    let n = check_att_value(&s[at + 1..e - 1]);
-    if n == ACCEPTED {
-        return Answer::At(e);
-    }
-    Answer::No(n)
+    let c = check_att_value(&s[0..e - 1], at + 1);
+    let Answer::At(_) = c else {
+        return c;
+    };
+    Answer::At(e)
 }
 
 // S SystemLiteral, as it stands after SYSTEM and after a public identifier.

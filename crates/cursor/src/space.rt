@@ -37,7 +37,7 @@ pub fn require_s(s: &[u8], at: usize) -> Answer
 {
     let e = skip_s(s, at);
     if e == at {
-        return Answer::No(NO_SPACE);
+        return Answer::No(NO_SPACE, at);
     }
     Answer::At(e)
 }

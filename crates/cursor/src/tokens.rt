@@ -5,7 +5,8 @@ use error::BAD_NAME;
 use error::HAS_COLON;
 use names::name_chars_end;
 use names::parse_name;
-use search::has_byte;
+use search::Found;
+use search::find_byte;
 ghost use mathlib.Core.Path.{_≡_};
 ghost use Rattle.spec.specs.Reading.Wellformed.{name};
 ghost use Rattle.spec.specs.Reading.Dtd.{nmtoken, ncname};
@@ -18,7 +19,7 @@ pub fn need_name(s: &[u8], at: usize, names: Names) -> Answer
 {
     let part = parse_name(s, at, names);
     if part.len() == 0 {
-        return Answer::No(BAD_NAME);
+        return Answer::No(BAD_NAME, at);
     }
     Answer::At(at + part.len())
 }
@@ -29,7 +30,7 @@ pub fn need_nmtoken(s: &[u8], at: usize, names: Names) -> Answer
 {
     let e = name_chars_end(s, at, names);
     if e == at {
-        return Answer::No(BAD_NAME);
+        return Answer::No(BAD_NAME, at);
     }
     Answer::At(e)
 }
@@ -40,10 +41,11 @@ pub fn need_ncname(s: &[u8], at: usize, names: Names) -> Answer
 {
     let part = parse_name(s, at, names);
     if part.len() == 0 {
-        return Answer::No(BAD_NAME);
+        return Answer::No(BAD_NAME, at);
     }
-    if has_byte(part, b':') {
-        return Answer::No(HAS_COLON);
+    let r = find_byte(part, 0, b':');
+    if let Found::Here(j) = r {
+        return Answer::No(HAS_COLON, at + j);
     }
     Answer::At(at + part.len())
 }

@@ -14,7 +14,7 @@ pub fn eat_str(s: &[u8], at: usize, kw: &[u8], refusal: u8) -> Answer
     if at_keyword(s, at, kw) {
         return Answer::At(at + kw.len());
     }
-    Answer::No(refusal)
+    Answer::No(refusal, at)
 }
 
 // Nothing is left to read.
@@ -22,7 +22,7 @@ pub fn at_end(s: &[u8], at: usize) -> Answer
     ensures { λ r. ⌜ r ≡ read (at-end trailing) (now (s .entry)) at ⌝ }
 {
     if at < s.len() {
-        return Answer::No(TRAILING);
+        return Answer::No(TRAILING, at);
     }
     Answer::At(at)
 }

@@ -30,13 +30,13 @@ some-required : (n : Refusal) (R : Reader) → Somes (required n R)
 unfolding required
 some-required n R = record { some = λ b w. first (R (b ∷ w)) }
   where
-    second : (k j : ℕ) (t : Bool) → eqb k 0 ≡ t → pick t (err n) (ok k) ≡ ok j → 0 < j
+    second : (k j : ℕ) (t : Bool) → eqb k 0 ≡ t → pick t (err n 0) (ok k) ≡ ok j → 0 < j
     second k j true f e = absurd (err-ok n j e)
     second k j false f e = let z : k ≡ j = ok-inj k j e in let y : k ≡ 0 → ⊥ = eqb-false k 0 f in omega arith
 
-    first : (x : Result) (j : ℕ) → on-ok x (λ k. pick (eqb k 0) (err n) (ok k)) ≡ ok j → 0 < j
+    first : (x : Result) (j : ℕ) → on-ok x (λ k. pick (eqb k 0) (err n 0) (ok k)) ≡ ok j → 0 < j
     first (ok k) j e = second k j (eqb k 0) refl e
-    first (err m) j e = absurd (err-ok m j e)
+    first (err m i) j e = absurd (err-ok m j e)
 
 pub some-att-def : (D : Dialect) → Somes (parse-att-def D)
 unfolding parse-att-def require-s

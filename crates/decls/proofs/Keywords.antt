@@ -80,10 +80,10 @@ module _ (flat lens s : List ℕ) (at k from m : ℕ) (r W : Answer) (l : length
   pub row-is : (e : ℕ) → r ≡ At e → At e ≡ W
   row-is e g = ate-only row m s at r ate-row others unexpected e g ∙ whole
 
-  pub row-not : (n : ℕ) → r ≡ No n → read (rows (drop (k + 1) lens) (drop (from + getD lens k 0) flat)) s at ≡ W
-  row-not n g = ate-not row m s at r ate-row (word-of row unexpected) others n (read others s at) g refl ∙ whole
+  pub row-not : (n i : ℕ) → r ≡ No n i → read (rows (drop (k + 1) lens) (drop (from + getD lens k 0) flat)) s at ≡ W
+  row-not n i g = ate-not row m s at r ate-row (word-of row unexpected) others n i (read others s at) g refl ∙ whole
 
-pub row-none : (flat lens s : List ℕ) (at k from m : ℕ) (W : Answer) → length lens ≡ 8 → 8 ≤ k → read (rows (drop k lens) (drop from flat)) s at ≡ W → m ≡ number unexpected → No m ≡ W
+pub row-none : (flat lens s : List ℕ) (at k from m : ℕ) (W : Answer) → length lens ≡ 8 → 8 ≤ k → read (rows (drop k lens) (drop from flat)) s at ≡ W → m ≡ number unexpected → No m at ≡ W
 unfolding rows
 row-none flat lens s at k from m W l h inv e = refused unexpected m s at e ∙ (rw (drop-end lens k (rw l h)) at inv)
 
@@ -111,9 +111,9 @@ module _ (ss : List String) (n : Refusal) (q : Reader) (s : List ℕ) (at : ℕ)
       go (inl (k, f)) = sym e ∙ a ∙ (rw (f (refuse n), f q))
       go (inr f) = absurd (At≢No (sym e ∙ a ∙ ap (placed at) (f (refuse n))))
 
-  pub among-no : (k : ℕ) (b : Answer) → r ≡ No k → b ≡ read q s at → b ≡ read (word-among ss q) s at
+  pub among-no : (k i : ℕ) (b : Answer) → r ≡ No k i → b ≡ read q s at → b ≡ read (word-among ss q) s at
   unfolding read refuse
-  among-no k b e g = go (among ss (drop at s))
+  among-no k i b e g = go (among ss (drop at s))
     where
       go : ((k : ℕ) × ((p : Reader) → word-among ss p (drop at s) ≡ ok k)) ⊎ ((p : Reader) → word-among ss p (drop at s) ≡ p (drop at s)) → b ≡ read (word-among ss q) s at
       go (inl (j, f)) = absurd (At≢No (sym (ap (placed at) (f (refuse n))) ∙ sym a ∙ e))

@@ -42,7 +42,7 @@ fn parse_tokenized(s: &[u8], at: usize) -> Answer
         from = to;
         k += 1;
     }
-    Answer::No(UNEXPECTED)
+    Answer::No(UNEXPECTED, at)
 }
 
 // [58] NotationType, after its keyword.
@@ -71,7 +71,7 @@ pub fn parse_att_type(s: &[u8], at: usize, names: Names) -> Answer
     if at_keyword(s, at, b"(") {
         return parse_enumeration(s, at, names);
     }
-    Answer::No(UNEXPECTED)
+    Answer::No(UNEXPECTED, at)
 }
 
 // ('#FIXED' S)? of [60] DefaultDecl.
@@ -154,10 +154,10 @@ fn parse_att_defs(s: &[u8], at: usize, names: Names) -> Answer
 }
 
 // [52] AttlistDecl between its keyword and its '>'.
-pub fn parse_attlist_decl(body: &[u8], names: Names) -> Answer
-    ensures { λ r. ⌜ r ≡ read (parse-attlist-decl (dialect names)) (now (body .entry)) 0 ⌝ }
+pub fn parse_attlist_decl(body: &[u8], at: usize, names: Names) -> Answer
+    ensures { λ r. ⌜ r ≡ read (parse-attlist-decl (dialect names)) (now (body .entry)) at ⌝ }
 {
-    let r = require_s(body, 0);
+    let r = require_s(body, at);
     let Answer::At(i) = r else {
         return r;
     };

@@ -117,10 +117,10 @@ fn parse_entity(s: &[u8], at: usize, names: Names) -> Answer
 }
 
 // [70] EntityDecl between its keyword and its '>'.
-pub fn parse_entity_decl(body: &[u8], names: Names) -> Answer
-    ensures { λ r. ⌜ r ≡ read (parse-entity-decl (dialect names)) (now (body .entry)) 0 ⌝ }
+pub fn parse_entity_decl(body: &[u8], at: usize, names: Names) -> Answer
+    ensures { λ r. ⌜ r ≡ read (parse-entity-decl (dialect names)) (now (body .entry)) at ⌝ }
 {
-    let r = require_s(body, 0);
+    let r = require_s(body, at);
     let Answer::At(i) = r else {
         return r;
     };

@@ -50,10 +50,10 @@ fn parse_notation_id(s: &[u8], at: usize) -> Answer
 }
 
 // [82] NotationDecl between its keyword and its '>'.
-pub fn parse_notation_decl(body: &[u8], names: Names) -> Answer
-    ensures { λ r. ⌜ r ≡ read (parse-notation-decl (dialect names)) (now (body .entry)) 0 ⌝ }
+pub fn parse_notation_decl(body: &[u8], at: usize, names: Names) -> Answer
+    ensures { λ r. ⌜ r ≡ read (parse-notation-decl (dialect names)) (now (body .entry)) at ⌝ }
 {
-    let r = require_s(body, 0);
+    let r = require_s(body, at);
     let Answer::At(i) = r else {
         return r;
     };

@@ -1,4 +1,4 @@
--- The parts of the whole DOCTYPE, and its agreement with the grammar. Assumes nothing.
+-- The parts of the whole DOCTYPE, its agreement with the grammar, and its places. Assumes nothing.
 use mathlib.Core.Path.{_≡_, sym}
 use mathlib.Core.Bool.{Bool, true, false, _||_}
 use mathlib.Core.List.{List}
@@ -16,9 +16,11 @@ use Rattle.spec.proofs.Agreement.Accepts.{Agrees}
 use Rattle.spec.proofs.Characters.AppendixB.{appendix-B-ascii}
 use Rattle.spec.proofs.Division.Promised.{doctype-promise}
 use Rattle.spec.proofs.Dtd.Texts.{doctype-agrees}
+use Rattle.spec.proofs.Inside.Checks.{Placed, doctype-placed}
 use Rattle.error.specs.Read.{read}
 use Rattle.error.specs.declared.Answer.{Answer}
 use Rattle.source.proofs.Admitting.{call-refused, call-answered}
+use Rattle.source.proofs.Placing.{stopping}
 use Rattle.cursor.proofs.Reading.{reading}
 use Rattle.dtd.specs.Parts.{id-part}
 
@@ -44,7 +46,13 @@ module _ (w : List ℕ) (n : ℕ) (e : n ≡ checked nothing w) where
   pub doctype-answered : (m : ℕ) → n ≡ 0 → m ≡ number-of (check-doctype appendix-B w) → ChecksDoctype appendix-B w m
   doctype-answered m z f = doctype-promise appendix-B appendix-B-ascii w m (call-answered (check-doctype appendix-B) (doctypedecl appendix-B) w n m whole-agrees e z f)
 
--- what the parts search, and the public call
+-- and its places lie within the text
+pub whole-placed : Placed (check-doctype appendix-B)
+whole-placed = doctype-placed appendix-B
+
+-- what the parts search, and the public calls
 pub ruleset parts-read = (id-yes, id-no, reading)
 
 pub ruleset whole = (doctype-refused, doctype-answered, needs)
+
+pub ruleset located = (stopping, whole-placed)

@@ -7,22 +7,25 @@ use cursor::parse_external_id;
 use cursor::skip_s;
 use error::ACCEPTED;
 use error::Answer;
+use error::Stop;
 use error::UNEXPECTED;
 use error::number;
+use error::stopped;
 use search::at_keyword;
 use source::admit;
+use source::admit_at;
 use subset::parse_internal_subset;
 ghost use mathlib.Core.Path.{_≡_};
 ghost use Rattle.spec.specs.Grammar.AppendixB.{appendix-B};
 ghost use Rattle.spec.specs.Reading.Dtd.{check-doctype};
 ghost use Rattle.spec.specs.Reading.Readers.{number-of};
-ghost use Rattle.spec.specs.Promises.{ChecksDoctype};
+ghost use Rattle.spec.specs.Promises.{ChecksDoctype, Stops};
 ghost use Rattle.error.specs.Read.{read};
 ghost use Rattle.classes.specs.Classes.{dialect};
 ghost use Rattle.dtd.specs.Parts.{id-part, subset-part};
 
 // (S ExternalID)? of [28], the white space before it passed, and the white space after it
-pub fn parse_id_part(s: &[u8], at: usize) -> Answer
+fn parse_id_part(s: &[u8], at: usize) -> Answer
     ensures { λ r. ⌜ r ≡ read id-part (now (s .entry)) at ⌝ }
 {
     if at_keyword(s, at, b"SYSTEM") | at_keyword(s, at, b"PUBLIC") {
@@ -88,4 +91,15 @@ pub fn check_doctype(text: &[u8]) -> u8
         return n;
     }
     doctype_number(text)
+}
+
+pub fn check_doctype_at(text: &[u8]) -> Stop
+    ensures { λ r. ⌜ Stops (check-doctype appendix-B) (now (text .entry)) (r .number) (r .place) ⌝ }
+{
+    let a = admit_at(text);
+    let Answer::At(_) = a else {
+        return stopped(a);
+    };
+    let r = parse_doctype(text, Names::AppendixB);
+    stopped(r)
 }

@@ -2,5 +2,5 @@
 mod doctype;
 
 pub use doctype::check_doctype;
+pub use doctype::check_doctype_at;
 pub use doctype::doctype_number;
-pub use doctype::parse_id_part;

@@ -4,24 +4,24 @@ use mathlib.Core.Path.{_≡_, refl, sym, ap, _∙_}
 use mathlib.Core.Bool.{Bool, true, false}
 use mathlib.Core.List.{List}
 use Prim.Native.Nat.{ℕ, _+_, _-_, _<_, _≤_}
-use native.Mathlib.Nat.{add-assoc, add-zero}
+use native.Mathlib.Nat.{add-assoc, add-zero, zero-add}
 use native.Mathlib.Omega.{arith}
 use borrow.Author.Needs.{needs}
 use lib.ListN.{length, getD, drop, length-drop}
 use lib.Seq.{drop-drop}
 use Rattle.spec.specs.Basics.{pick}
 use Rattle.spec.specs.Reading.Refusals.{Refusal, number}
-use Rattle.spec.specs.Reading.Readers.{Result, ok, err, Reader, number-of, past, _>>_, nothing, refuse, starts, choose, word-of, throughout}
+use Rattle.spec.specs.Reading.Readers.{Result, ok, err, Reader, number-of, stop-of, past, _>>_, nothing, refuse, starts, choose, word-of, throughout}
 use Rattle.spec.proofs.Base.Places.{drop-at, drop-end}
 use Rattle.spec.proofs.Base.Loops.{Somes, through-end, through-some, through-none}
-use Rattle.spec.proofs.Base.Results.{number-pos}
 use Rattle.error.specs.Read.{placed, read, eaten}
-use Rattle.error.specs.Numbers.{answer-number}
+use Rattle.error.specs.Numbers.{answer-number, answer-stop}
 use Rattle.error.specs.declared.Answer.{Answer}
 use Rattle.error.specs.declared.Answer.the-variants.{At, No}
+use Rattle.error.specs.declared.Stop.{Stop}
 
 -- an answer is a place or a refusal
-pub At≢No : {i n : ℕ} → At i ≡ No n → ⊥
+pub At≢No : {i n k : ℕ} → At i ≡ No n k → ⊥
 At≢No e = let z : _≡_ {A = ℕ} 0 1 = cc in omega arith
 
 pub At-inj : {i k : ℕ} → At i ≡ At k → i ≡ k
@@ -30,7 +30,7 @@ At-inj e = cc
 -- bytes taken before, as places
 pub placed-past : (at k : ℕ) (x : Result) → placed at (past k x) ≡ placed (at + k) x
 placed-past at k (ok n) = ap At (sym (add-assoc at k n))
-placed-past at k (err n) = refl
+placed-past at k (err r n) = ap (No (number r)) (sym (add-assoc at k n))
 
 -- a reader that goes on at k of what is left at a place
 pub read-on : (R : Reader) (s : List ℕ) (at k : ℕ) → read R s (at + k) ≡ placed at (past k (R (drop k (drop at s))))
@@ -44,20 +44,20 @@ was-ok R s at i r a e = go (R (drop at s)) refl a
   where
     go : (x : Result) → R (drop at s) ≡ x → r ≡ placed at x → (k : ℕ) × ((R (drop at s) ≡ ok k) × (i ≡ at + k))
     go (ok k) f a = (k, (f, At-inj (sym e ∙ a)))
-    go (err n) f a = absurd (At≢No (sym e ∙ a))
+    go (err n j) f a = absurd (At≢No (sym e ∙ a))
 
-pub was-err : (R : Reader) (s : List ℕ) (at n : ℕ) (r : Answer) → r ≡ read R s at → r ≡ No n → (m : Refusal) × ((R (drop at s) ≡ err m) × (r ≡ No (number m)))
+pub was-err : (R : Reader) (s : List ℕ) (at n k : ℕ) (r : Answer) → r ≡ read R s at → r ≡ No n k → (m : Refusal) × ((j : ℕ) × ((R (drop at s) ≡ err m j) × (r ≡ No (number m) (at + j))))
 unfolding read
-was-err R s at n r a e = go (R (drop at s)) refl a
+was-err R s at n i r a e = go (R (drop at s)) refl a
   where
-    go : (x : Result) → R (drop at s) ≡ x → r ≡ placed at x → (m : Refusal) × ((R (drop at s) ≡ err m) × (r ≡ No (number m)))
+    go : (x : Result) → R (drop at s) ≡ x → r ≡ placed at x → (m : Refusal) × ((j : ℕ) × ((R (drop at s) ≡ err m j) × (r ≡ No (number m) (at + j))))
     go (ok k) f a = absurd (At≢No (sym a ∙ e))
-    go (err m) f a = (m, (f, a))
+    go (err m j) f a = (m, (j, (f, a)))
 
 -- A chain. r is what A answered at a place, and q what the code answers in the end.
-pub seq-no : (A B : Reader) (s : List ℕ) (at n : ℕ) (r : Answer) → r ≡ read A s at → r ≡ No n → r ≡ read (A >> B) s at
+pub seq-no : (A B : Reader) (s : List ℕ) (at n k : ℕ) (r : Answer) → r ≡ read A s at → r ≡ No n k → r ≡ read (A >> B) s at
 unfolding read _>>_
-seq-no A B s at n r a e = let (m, (f, g)) = was-err A s at n r a e in g ∙ (rw f)
+seq-no A B s at n k r a e = let (m, (j, (f, g))) = was-err A s at n k r a e in g ∙ (rw f)
 
 pub seq-at : (A B : Reader) (s : List ℕ) (at i : ℕ) (r q : Answer) → r ≡ read A s at → r ≡ At i → q ≡ read B s i → q ≡ read (A >> B) s at
 unfolding _>>_
@@ -77,9 +77,9 @@ pub choose-no : (t : List ℕ → Bool) (A B : Reader) (s : List ℕ) (at : ℕ)
 unfolding read choose
 choose-no t A B s at b r e f a = a ∙ (rw (sym e ∙ f))
 
-pub refused : (n : Refusal) (m : ℕ) (s : List ℕ) (at : ℕ) → m ≡ number n → No m ≡ read (refuse n) s at
+pub refused : (n : Refusal) (m : ℕ) (s : List ℕ) (at : ℕ) → m ≡ number n → No m at ≡ read (refuse n) s at
 unfolding read refuse
-refused n m s at e = ap No e
+refused n m s at e = rw (add-zero) (ap (λ (i : ℕ). No i at) e)
 
 pub took-nothing : (s : List ℕ) (at : ℕ) → At at ≡ read nothing s at
 unfolding read nothing
@@ -91,15 +91,15 @@ module _ (kw : List ℕ) (m : ℕ) (s : List ℕ) (at : ℕ) (r : Answer) (a : r
   unfolding read eaten word-of
   ate n e = go (starts kw (drop at s)) a
     where
-      go : (t : Bool) → r ≡ pick t (At (at + length kw)) (No m) → r ≡ placed at (pick t (ok (length kw)) (err n))
+      go : (t : Bool) → r ≡ pick t (At (at + length kw)) (No m at) → r ≡ placed at (pick t (ok (length kw)) (err n 0))
       go true f = f
-      go false f = f ∙ ap No e
+      go false f = f ∙ (rw (add-zero) (ap (λ (i : ℕ). No i at) e))
 
   stands : (i : ℕ) → r ≡ At i → (starts kw (drop at s) ≡ true) × (i ≡ at + length kw)
   unfolding eaten
   stands i e = go (starts kw (drop at s)) a
     where
-      go : (t : Bool) → r ≡ pick t (At (at + length kw)) (No m) → (t ≡ true) × (i ≡ at + length kw)
+      go : (t : Bool) → r ≡ pick t (At (at + length kw)) (No m at) → (t ≡ true) × (i ≡ at + length kw)
       go true f = (refl, At-inj (sym e ∙ f))
       go false f = absurd (At≢No (sym e ∙ f))
 
@@ -114,11 +114,11 @@ module _ (kw : List ℕ) (m : ℕ) (s : List ℕ) (at : ℕ) (r : Answer) (a : r
       let (f, g) = stands i e in
       choose-yes (starts kw) (word-of kw n) B s at true (At i) (sym f) refl (unfold read word-of in (rw (f, g)))
 
-  pub ate-not : (A B : Reader) (k : ℕ) (q : Answer) → r ≡ No k → q ≡ read B s at → q ≡ read (choose (starts kw) A B) s at
+  pub ate-not : (A B : Reader) (k i : ℕ) (q : Answer) → r ≡ No k i → q ≡ read B s at → q ≡ read (choose (starts kw) A B) s at
   unfolding eaten
-  ate-not A B k q e b = go (starts kw (drop at s)) refl a
+  ate-not A B k i q e b = go (starts kw (drop at s)) refl a
     where
-      go : (t : Bool) → starts kw (drop at s) ≡ t → r ≡ pick t (At (at + length kw)) (No m) → q ≡ read (choose (starts kw) A B) s at
+      go : (t : Bool) → starts kw (drop at s) ≡ t → r ≡ pick t (At (at + length kw)) (No m at) → q ≡ read (choose (starts kw) A B) s at
       go true f g = absurd (At≢No (sym g ∙ e))
       go false f g = choose-no (starts kw) A B s at false q (sym f) refl b
 
@@ -136,10 +136,10 @@ module _ (R : Reader) (s : List ℕ) (i : ℕ) (W : Answer) (inv : read (through
       where
         go : (x : Result) → R (drop i s) ≡ x → 0 < length (drop i s) → throughout R (drop i s) ≡ (R >> throughout R) (drop i s)
         go (ok k) f l = through-some R some (drop i s) k l f ∙ (rw f)
-        go (err n) f l = through-none R (drop i s) n l f ∙ (rw f)
+        go (err n j) f l = through-none R (drop i s) n l f ∙ (rw f)
 
-    pub walk-no : (n : ℕ) (r : Answer) → r ≡ read R s i → r ≡ No n → r ≡ W
-    walk-no n r a e = seq-no R (throughout R) s i n r a e ∙ again
+    pub walk-no : (n k : ℕ) (r : Answer) → r ≡ read R s i → r ≡ No n k → r ≡ W
+    walk-no n k r a e = seq-no R (throughout R) s i n k r a e ∙ again
 
     pub walk-go : (j : ℕ) (r : Answer) → r ≡ read R s i → r ≡ At j → read (throughout R) s j ≡ W
     walk-go j r a e = seq-at R (throughout R) s i j r _ a e refl ∙ again
@@ -158,19 +158,36 @@ answered C s r m a e = e ∙ ap answer-number a ∙ go (C s)
   where
     go : (x : Result) → answer-number (placed 0 x) ≡ number-of x
     go (ok k) = refl
-    go (err n) = refl
+    go (err n j) = refl
 
--- what the number says of the check's answer
-pub number-ok : (x : Result) → number-of x ≡ 0 → (k : ℕ) × (x ≡ ok k)
-number-ok (ok k) e = (k, refl)
-number-ok (err n) e = absurd (omega (arith, number-pos n))
+-- and with the place
+pub stop-at : (a : Answer) (i : ℕ) → a ≡ At i → _≡_ {A = Stop} (record { number = 0; place = i }) (answer-stop a)
+stop-at a i e = rw e
 
-pub number-err : (x : Result) → (number-of x ≡ 0 → ⊥) → (n : Refusal) × (x ≡ err n)
-number-err (ok k) e = absurd (e refl)
-number-err (err n) e = (n, refl)
+pub stop-no : (a : Answer) (n k : ℕ) → a ≡ No n k → _≡_ {A = Stop} (record { number = n; place = k }) (answer-stop a)
+stop-no a n k e = rw e
+
+pub stop-number : (C : Reader) (s : List ℕ) (r : Answer) (m : Stop) → r ≡ read C s 0 → m ≡ answer-stop r → m .number ≡ number-of (C s)
+unfolding read
+stop-number C s r m a e = ap (λ (x : Stop). x .number) (e ∙ ap answer-stop a) ∙ go (C s)
+  where
+    go : (x : Result) → answer-stop (placed 0 x) .number ≡ number-of x
+    go (ok k) = refl
+    go (err n k) = refl
+
+pub stop-place : (C : Reader) (s : List ℕ) (r : Answer) (m : Stop) → r ≡ read C s 0 → m ≡ answer-stop r → m .place ≡ stop-of (C s)
+unfolding read
+stop-place C s r m a e = ap (λ (x : Stop). x .place) (e ∙ ap answer-stop a) ∙ go (C s)
+  where
+    go : (x : Result) → answer-stop (placed 0 x) .place ≡ stop-of x
+    go (ok k) = zero-add k
+    go (err n k) = zero-add k
 
 -- what a chain of readers searches
 pub ruleset chain = (seq-no, seq-at, choose-yes, choose-no, refused, took-nothing, ate, ate-then, ate-only, ate-not, needs)
 
 -- what a loop to the text's end searches
 pub ruleset walk = (walk-end, walk-no, walk-go, walk-less, needs)
+
+-- what the stop of an answer searches
+pub ruleset stopping = (stop-at, stop-no, needs)

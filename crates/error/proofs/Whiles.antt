@@ -22,11 +22,11 @@ unfolding _>>_
 then-then A B C w = first (A w)
   where
     second : (k : ℕ) (x : Result) → on-ok (past k x) (λ j. past j (C (drop j w))) ≡ past k (on-ok x (λ j. past j (C (drop j (drop k w)))))
-    second k (err n) = refl
+    second k (err n j) = refl
     second k (ok j) = sym (past-past k j (C (drop j (drop k w))) ∙ ap (λ (v : List ℕ). past (k + j) (C v)) (drop-drop j k w))
 
     first : (x : Result) → on-ok (on-ok x (λ k. past k (B (drop k w)))) (λ j. past j (C (drop j w))) ≡ on-ok x (λ k. past k ((B >> C) (drop k w)))
-    first (err n) = refl
+    first (err n j) = refl
     first (ok k) = second k (B (drop k w))
 
 -- A turn takes a byte or more, where the test holds.
@@ -42,7 +42,7 @@ module _ (t : List ℕ → Bool) (r : Reader) (ends : t [] ≡ false) (some : So
     where
       go : (x : Result) → r w ≡ x → while t r w ≡ (r >> while t r) w
       go (ok k) f = while-turn t r ends turn-some w k e f ∙ (rw f)
-      go (err n) f = while-refused t r ends w n e f ∙ (rw f)
+      go (err n j) f = while-refused t r ends w n e f ∙ (rw f)
 
   unroll-then : (B : Reader) (w : List ℕ) → t w ≡ true → (while t r >> B) w ≡ (r >> while t r >> B) w
   unroll-then B w e = rw (← then-then r (while t r) B w) (unfold _>>_ in (rw (unroll w e)))
@@ -69,11 +69,11 @@ module _ (t : List ℕ → Bool) (r B : Reader) (s : List ℕ) (i : ℕ) (W : An
       turned : read (r >> while t r >> B) s i ≡ W
       turned = sym (while-first t r B s i b _ ends some e f refl) ∙ inv
 
-      pub while-no : (n : ℕ) (a : Answer) → a ≡ No n → a ≡ read r s i → a ≡ W
-      while-no n a g h = seq-no r (while t r >> B) s i n a h g ∙ turned
+      pub while-no : (n k : ℕ) (a : Answer) → a ≡ No n k → a ≡ read r s i → a ≡ W
+      while-no n k a g h = seq-no r (while t r >> B) s i n k a h g ∙ turned
 
-      pub while-err : (n : ℕ) → No n ≡ read r s i → No n ≡ W
-      while-err n h = while-no n (No n) refl h
+      pub while-err : (n k : ℕ) → No n k ≡ read r s i → No n k ≡ W
+      while-err n k h = while-no n k (No n k) refl h
 
       module _ (j : ℕ) (h : At j ≡ read r s i) where
         pub while-go : read (while t r >> B) s j ≡ W

@@ -2,6 +2,7 @@
 mod numbers;
 
 pub use numbers::number;
+pub use numbers::stopped;
 
 pub const ACCEPTED: u8 = 0;
 // longer than 1,048,576 bytes
@@ -47,8 +48,14 @@ pub const TOO_DEEP: u8 = 20;
 // gate: declaration not first, second DOCTYPE, wrong phase
 pub const OUT_OF_ORDER: u8 = 21;
 
-// What a reader answers: the place after what it read, or the number of the refusal.
+// What a reader answers: the place after what it read, or the number of the refusal and the place where it is met.
 pub enum Answer {
     At(usize),
-    No(u8),
+    No(u8, usize),
+}
+
+// What a check with a place answers: the number of the refusal and the place where it is met, or 0 and the text's end.
+pub struct Stop {
+    pub number: u8,
+    pub place: usize,
 }

@@ -1,13 +1,29 @@
-// The number of document 01's table that an answer comes to.
+// What an answer comes to: its number in document 01's table, alone or with its place.
 use crate::Answer;
+use crate::Stop;
 ghost use mathlib.Core.Path.{_≡_};
-ghost use Rattle.error.specs.Numbers.{answer-number};
+ghost use Rattle.error.specs.Numbers.{answer-number, answer-stop};
 
 pub fn number(a: Answer) -> u8
     ensures { λ r. ⌜ r ≡ answer-number a ⌝ }
 {
     match a {
         Answer::At(_) => crate::ACCEPTED,
-        Answer::No(n) => n,
+        Answer::No(n, _) => n,
+    }
+}
+
+pub fn stopped(a: Answer) -> Stop
+    ensures { λ r. ⌜ r ≡ answer-stop a ⌝ }
+{
+    match a {
+        Answer::At(i) => Stop {
+            number: crate::ACCEPTED,
+            place: i,
+        },
+        Answer::No(n, k) => Stop {
+            number: n,
+            place: k,
+        },
     }
 }

@@ -3,6 +3,7 @@ use mathlib.Core.Path.{_≡_, refl, sym, ap, _∙_}
 use mathlib.Core.Bool.{Bool, true, false, _&&_, _||_, true≢false}
 use mathlib.Core.List.{List, [], _∷_}
 use Prim.Native.Nat.{ℕ, suc, _+_, _-_, _<_, _≤_}
+use native.Mathlib.Nat.{add-zero}
 use native.Mathlib.Omega.{arith}
 use borrow.Author.Needs.{needs}
 use lib.Dec.{eqb}
@@ -29,9 +30,9 @@ use Rattle.search.proofs.Placing.{from-nowhere, from-here}
 
 -- r is what is found of the '>' that ends a body
 module _ (s : List ℕ) (i : ℕ) (r : Found) (a : r ≡ place-from (outside (either 62 62) 0) s i) where
-  pub body-open : (m : ℕ) → r ≡ Nowhere → m ≡ number unterminated → No m ≡ read take-decl-body s i
+  pub body-open : (m : ℕ) → r ≡ Nowhere → m ≡ number unterminated → No m i ≡ read take-decl-body s i
   unfolding read take-decl-body
-  body-open m b e = rw (← outside-one, from-nowhere (outside (either 62 62) 0) s i r a b, e)
+  body-open m b e = rw (← outside-one, from-nowhere (outside (either 62 62) 0) s i r a b, e, add-zero)
 
   pub body-end : (j : ℕ) → r ≡ Here j → At j ≡ read take-decl-body s i
   unfolding read take-decl-body

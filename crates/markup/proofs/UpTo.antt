@@ -4,51 +4,53 @@ use mathlib.Core.Bool.{Bool, true, false, _||_, true≢false}
 use mathlib.Core.List.{List, [], _∷_, _++_, append-assoc}
 use Prim.Native.Nat.{ℕ, suc, _+_, _-_}
 use Prim.Native.String.{String}
-use native.Mathlib.Nat.{add-assoc}
+use native.Mathlib.Nat.{add-assoc, add-zero}
 use native.Mathlib.Omega.{arith}
 use borrow.Author.Tests.{not-true, not-false}
 use lib.ListN.{length, take, drop, take-append-drop}
 use lib.Seq.{drop-drop}
 use Rattle.spec.specs.Basics.{pick}
 use Rattle.spec.specs.Grammar.Languages.{ascii}
-use Rattle.spec.specs.Reading.Refusals.{Refusal, number}
-use Rattle.spec.specs.Reading.Readers.{Result, ok, err, number-of, on-ok, nothing, refuse, starts, choose, word-of, contains, before, up-to}
+use Rattle.spec.specs.Reading.Refusals.{Refusal, number, double-hyphen}
+use Rattle.spec.specs.Reading.Readers.{Result, ok, err, on-ok, nothing, refuse, starts, choose, word-of, contains, before, refuse-at, up-to}
 use Rattle.spec.specs.Reading.Dtd.{check-comment}
 use Rattle.spec.proofs.Base.Tests.{T→true, no→false}
 use Rattle.spec.proofs.Agreement.Words.{starts-self, starts-split}
 use Rattle.error.specs.Read.{placed, read}
+use Rattle.error.specs.declared.Answer.{Answer}
 use Rattle.error.specs.declared.Answer.the-variants.{At, No}
-use Rattle.error.proofs.Laws.{number-ok, number-err}
+use Rattle.error.proofs.Laws.{was-ok, was-err}
 use Rattle.search.proofs.Words.{word-yes, word-no, by-words}
 use Rattle.search.specs.FirstPlace.{first-place}
 use Rattle.search.specs.declared.places.Found.{Found}
 use Rattle.search.specs.declared.places.Found.the-variants.{Here, Nowhere}
 use Rattle.search.proofs.Finding.{was-nowhere, was-here, places-found}
+use Rattle.cursor.proofs.Reading.{left-of}
 
--- the word k was looked for from a place on, which gave r; m is what the check says of what stands before it
+-- the word k was looked for from a place on, which gave r; c is what the check answers where what stands before it is all there is
 module _ (k : String) (n : Refusal) (check : List ℕ → Result) (s : List ℕ) (at : ℕ) (r : Found) (a : r ≡ first-place (ascii k) s at) where
-  pub up-to-nowhere : (m : ℕ) → r ≡ Nowhere → m ≡ number n → No m ≡ read (up-to k n check) s at
+  pub up-to-nowhere : (m : ℕ) → r ≡ Nowhere → m ≡ number n → No m at ≡ read (up-to k n check) s at
   unfolding read up-to refuse
-  up-to-nowhere m b e = rw (was-nowhere (ascii k) s at r a b, e)
+  up-to-nowhere m b e = rw (was-nowhere (ascii k) s at r a b, e, add-zero)
 
-  module _ (j m : ℕ) (b : r ≡ Here j) (c : m ≡ number-of (check (take (j - at) (drop at s)))) where
-    up-to-here : (x : Result) → check (take (j - at) (drop at s)) ≡ x → read (up-to k n check) s at ≡ placed at (on-ok x (λ _. ok (before (ascii k) (drop at s) + length (ascii k))))
+  module _ (j : ℕ) (q : Answer) (b : r ≡ Here j) (c : q ≡ read check (take (j - 0) (drop 0 s)) at) where
+    up-to-here : (x : Result) → check (drop at (take (j - 0) (drop 0 s))) ≡ x → read (up-to k n check) s at ≡ placed at (on-ok x (λ _. ok (before (ascii k) (drop at s) + length (ascii k))))
     unfolding read up-to
     up-to-here x f =
         let (g, h) = was-here (ascii k) s at r a j b in
         let z : j - at ≡ before (ascii k) (drop at s) = omega arith in
-        rw (g, ← z, f)
+        rw (g, ← z, ← left-of at j s, f)
 
-    pub up-to-taken : (l : ℕ) → m ≡ 0 → l ≡ length (ascii k) → At (j + l) ≡ read (up-to k n check) s at
-    up-to-taken l e d =
-        let (i, f) = number-ok (check (take (j - at) (drop at s))) (sym c ∙ e) in
+    pub up-to-taken : (l o : ℕ) → q ≡ At o → l ≡ length (ascii k) → At (j + l) ≡ read (up-to k n check) s at
+    up-to-taken l o e d =
+        let (i, (f, _)) = was-ok check (take (j - 0) (drop 0 s)) at o q c e in
         let (g, h) = was-here (ascii k) s at r a j b in
         rw (up-to-here (ok i) f, d, h, add-assoc)
 
-    pub up-to-refused : (m ≡ 0 → ⊥) → No m ≡ read (up-to k n check) s at
-    up-to-refused e =
-        let (y, f) = number-err (check (take (j - at) (drop at s))) (λ z. e (c ∙ z)) in
-        ap No (c ∙ ap number-of f) ∙ sym (up-to-here (err y) f)
+    pub up-to-refused : (m o : ℕ) → q ≡ No m o → q ≡ read (up-to k n check) s at
+    up-to-refused m o e =
+        let (y, (i, (f, g))) = was-err check (take (j - 0) (drop 0 s)) at m o q c e in
+        g ∙ sym (up-to-here (err y i) f)
 
 -- a word that goes on stands only where its first part does, and not in what stands before the first place of that part
 starts-part : (p x w : List ℕ) → starts (p ++ x) w ≡ true → starts p w ≡ true
@@ -96,15 +98,15 @@ comment-once s at j r b n a d e f =
 pub word-end : (p s : List ℕ) (at l : ℕ) (b : Bool) (n : Refusal) → b ≡ starts p (drop at s) → b ≡ true → l ≡ length p → At (at + l) ≡ read (word-of p n) s at
 word-end p s at l b n e f d = rw d (word-yes p s at b e n f)
 
--- a check that refuses what a test holds of, and takes the rest
-module _ (t : List ℕ → Bool) (n : Refusal) (w : List ℕ) (b : Bool) (e : b ≡ t w) where
-  pub test-refused : (m : ℕ) → b ≡ true → m ≡ number n → m ≡ number-of (choose t (refuse n) nothing w)
-  unfolding choose refuse
-  test-refused m f g = g ∙ (rw (sym e ∙ f))
+-- a comment's text: the first "--" in it, as r says
+module _ (t : List ℕ) (at : ℕ) (r : Found) (a : r ≡ first-place (ascii "--") t at) where
+  pub comment-twice : (j m : ℕ) → r ≡ Here j → m ≡ number double-hyphen → No m j ≡ read check-comment t at
+  unfolding read check-comment choose refuse-at
+  comment-twice j m b e = let (c, l) = was-here (ascii "--") t at r a j b in rw (c, e, l)
 
-  pub test-taken : b ≡ false → 0 ≡ number-of (choose t (refuse n) nothing w)
-  unfolding choose nothing
-  test-taken f = rw (sym e ∙ f)
+  pub comment-clean : r ≡ Nowhere → At at ≡ read check-comment t at
+  unfolding read check-comment choose nothing
+  comment-clean b = rw (was-nowhere (ascii "--") t at r a b, add-zero)
 
 -- what code searches that reads up to a word
-pub ruleset upwards = (up-to-nowhere, up-to-taken, up-to-refused, comment-once, test-refused, test-taken, word-end, word-no, not-true, not-false, places-found, by-words)
+pub ruleset upwards = (up-to-nowhere, up-to-taken, up-to-refused, comment-once, comment-twice, comment-clean, word-end, word-no, not-true, not-false, places-found, by-words)

@@ -20,7 +20,7 @@ pub fn take_decl_body(s: &[u8], at: usize) -> Answer
 {
     let r = outside_quotes(s, at, b'>', b'>');
     let Found::Here(end) = r else {
-        return Answer::No(error::UNTERMINATED);
+        return Answer::No(error::UNTERMINATED, at);
     };
     Answer::At(end)
 }

@@ -3,21 +3,21 @@ use error::Answer;
 use search::Found;
 use search::at_keyword;
 use search::find;
-use search::has;
 ghost use mathlib.Core.Path.{_≡_};
 ghost use Rattle.spec.specs.Reading.Refusals.{unterminated};
-ghost use Rattle.spec.specs.Reading.Readers.{number-of, up-to};
+ghost use Rattle.spec.specs.Reading.Readers.{up-to};
 ghost use Rattle.spec.specs.Reading.Dtd.{check-comment, parse-comment};
 ghost use Rattle.error.specs.Read.{read};
 
-// What stands between "<!--" and "-->" has no "--".
-fn check_comment(t: &[u8]) -> u8
-    ensures { λ r. ⌜ r ≡ number-of (check-comment (now (t .entry))) ⌝ }
+// What stands between "<!--" and "-->" has no "--": t from `at` on.
+fn check_comment(t: &[u8], at: usize) -> Answer
+    ensures { λ r. ⌜ r ≡ read check-comment (now (t .entry)) at ⌝ }
 {
-    if has(t, b"--") {
-        return error::DOUBLE_HYPHEN;
-    }
-    error::ACCEPTED
+    let r = find(t, at, b"--");
+    let Found::Here(j) = r else {
+        return Answer::At(at);
+    };
+    Answer::No(error::DOUBLE_HYPHEN, j)
 }
 
 // From a comment's text on, to the first "-->".
@@ -26,12 +26,12 @@ fn end_comment(s: &[u8], from: usize) -> Answer
 {
     let r = find(s, from, b"-->");
     let Found::Here(j) = r else {
-        return Answer::No(error::UNTERMINATED);
+        return Answer::No(error::UNTERMINATED, from);
     };
-    let n = check_comment(&s[from..j]);
-    if n != error::ACCEPTED {
-        return Answer::No(n);
-    }
+    let c = check_comment(&s[0..j], from);
+    let Answer::At(_) = c else {
+        return c;
+    };
     Answer::At(j + 3)
 }
 
@@ -41,7 +41,7 @@ pub fn parse_comment(s: &[u8], at: usize) -> Answer
     ensures { λ r. ⌜ r ≡ read parse-comment (now (s .entry)) at ⌝ }
 {
     if !at_keyword(s, at, b"<!--") {
-        return Answer::No(error::UNEXPECTED);
+        return Answer::No(error::UNEXPECTED, at);
     }
     let from = at + 4;
     let r = find(s, from, b"--");

@@ -1,14 +1,16 @@
 // Processing instructions.
 use classes::Names;
 use error::Answer;
-use names::name_number;
+use names::whole_name;
 use search::Found;
 use search::at_keyword;
 use search::find;
-use search::has;
+use search::find_byte;
 ghost use mathlib.Core.Path.{_≡_};
+ghost use Prim.Native.Nat.{_+_};
+ghost use lib.ListN.{drop};
 ghost use Rattle.spec.specs.Grammar.Languages.{none-of};
-ghost use Rattle.spec.specs.Reading.Readers.{number-of, run};
+ghost use Rattle.spec.specs.Reading.Readers.{run};
 ghost use Rattle.spec.specs.Reading.Dtd.{reserved, check-target, check-pi, parse-pi};
 ghost use Rattle.error.specs.Read.{read};
 ghost use Rattle.classes.specs.Classes.{dialect};
@@ -25,11 +27,11 @@ fn is_reserved(t: &[u8]) -> bool
         & ((t[2] == b'L') | (t[2] == b'l'))
 }
 
-// The bytes before the first white space: where the target ends.
-fn target_end(t: &[u8]) -> usize
-    ensures { λ r. ⌜ r ≡ run (none-of " \t\r\n") (now (t .entry)) ⌝ }
+// The first white space from `at` on: where the target ends.
+fn target_end(t: &[u8], at: usize) -> usize
+    ensures { λ r. ⌜ r ≡ at + run (none-of " \t\r\n") (drop at (now (t .entry))) ⌝ }
 {
-    let mut i: usize = 0;
+    let mut i = at;
     while i < t.len() {
         let b = t[i];
         if (b == b' ') | (b == b'\t') | (b == b'\r') | (b == b'\n') {
@@ -40,29 +42,33 @@ fn target_end(t: &[u8]) -> usize
     i
 }
 
-// [17] PITarget: check_name, reject_colon, and not the reserved name, in that order.
-fn check_target(t: &[u8], names: Names) -> u8
-    ensures { λ r. ⌜ r ≡ number-of (check-target (dialect names) (now (t .entry))) ⌝ }
+// [17] PITarget, t from `at` on: check_name, reject_colon, and not the reserved name, in that order.
+fn check_target(t: &[u8], at: usize, names: Names) -> Answer
+    ensures { λ r. ⌜ r ≡ read (check-target (dialect names)) (now (t .entry)) at ⌝ }
 {
-    let n = name_number(t, names);
-    if n != error::ACCEPTED {
-        return n;
+    let r = whole_name(t, at, names);
+    let Answer::At(_) = r else {
+        return r;
+    };
+    let c = find_byte(t, at, b':');
+    if let Found::Here(j) = c {
+        return Answer::No(error::HAS_COLON, j);
     }
-    if has(t, b":") {
-        return error::HAS_COLON;
+    if is_reserved(&t[at..]) {
+        return Answer::No(error::RESERVED_TARGET, at);
     }
-    if is_reserved(t) {
-        return error::RESERVED_TARGET;
-    }
-    error::ACCEPTED
+    Answer::At(at)
 }
 
-// What stands between "<?" and "?>": only the target is looked at.
-fn check_pi(t: &[u8], names: Names) -> u8
-    ensures { λ r. ⌜ r ≡ number-of (check-pi (dialect names) (now (t .entry))) ⌝ }
+// What stands between "<?" and "?>", t from `at` on: only the target is looked at.
+fn check_pi(t: &[u8], at: usize, names: Names) -> Answer
+    ensures { λ r. ⌜ r ≡ read (check-pi (dialect names)) (now (t .entry)) at ⌝ }
 {
-    let e = target_end(t);
-    check_target(&t[0..e], names)
+    if t.len() < at {
+        return Answer::No(error::BAD_NAME, at);
+    }
+    let e = target_end(t, at);
+    check_target(&t[0..e], at, names)
 }
 
 // parse_pi, [16] PI: from "<?" to the first "?>".
@@ -70,16 +76,16 @@ pub fn parse_pi(s: &[u8], at: usize, names: Names) -> Answer
     ensures { λ r. ⌜ r ≡ read (parse-pi (dialect names)) (now (s .entry)) at ⌝ }
 {
     if !at_keyword(s, at, b"<?") {
-        return Answer::No(error::UNEXPECTED);
+        return Answer::No(error::UNEXPECTED, at);
     }
     let from = at + 2;
     let r = find(s, from, b"?>");
     let Found::Here(j) = r else {
-        return Answer::No(error::UNTERMINATED);
+        return Answer::No(error::UNTERMINATED, from);
     };
-    let n = check_pi(&s[from..j], names);
-    if n != error::ACCEPTED {
-        return Answer::No(n);
-    }
+    let c = check_pi(&s[0..j], from, names);
+    let Answer::At(_) = c else {
+        return c;
+    };
     Answer::At(j + 2)
 }

@@ -13,7 +13,7 @@ pub fn parse_pe_reference(s: &[u8], at: usize, names: Names) -> Answer
     ensures { λ r. ⌜ r ≡ read (parse-pe-reference (dialect names)) (now (s .entry)) at ⌝ }
 {
     if !at_keyword(s, at, b"%") {
-        return Answer::No(error::UNEXPECTED);
+        return Answer::No(error::UNEXPECTED, at);
     }
     let r = need_name(s, at + 1, names);
     let Answer::At(e) = r else {
@@ -22,5 +22,5 @@ pub fn parse_pe_reference(s: &[u8], at: usize, names: Names) -> Answer
     if at_keyword(s, e, b";") {
         return Answer::At(e + 1);
     }
-    Answer::No(error::UNEXPECTED)
+    Answer::No(error::UNEXPECTED, e)
 }

@@ -4,6 +4,7 @@ use mathlib.Core.Logic.{_⊎_, inl, inr}
 use mathlib.Core.Bool.{Bool, true, false}
 use mathlib.Core.List.{List, [], _∷_}
 use Prim.Native.Nat.{ℕ, zero, suc, _+_, _-_}
+use native.Mathlib.Nat.{add-zero}
 use native.Mathlib.Numerals.{sub-one}
 use borrow.Author.Needs.{needs}
 use lib.Dec.{eqb}
@@ -31,9 +32,9 @@ use Rattle.models.proofs.Signs.{sign-yes, connector-ends, some-sign, st
 use Rattle.error.proofs.Whiles.{unroll, whiles}
 
 -- by the height
-pub group-none : (n : Names) (h m at : ℕ) (s : List ℕ) → h ≡ 0 → m ≡ number too-deep → No m ≡ read (parse-group (dialect n) h) s at
+pub group-none : (n : Names) (h m at : ℕ) (s : List ℕ) → h ≡ 0 → m ≡ number too-deep → No m at ≡ read (parse-group (dialect n) h) s at
 unfolding read parse-group refuse dialect
-group-none AppendixB h m at s e f = rw (e, f)
+group-none AppendixB h m at s e f = rw (e, f, add-zero)
 
 pub group-some : (D : Dialect) (h at : ℕ) (s : List ℕ) (r : Answer) → (h ≡ 0 → ⊥) → r ≡ read (word "(" unexpected >> skip-s >> cp-of D (parse-group D (h - 1)) >> skip-s >> group-end (cp-of D (parse-group D (h - 1)))) s at → r ≡ read (parse-group D h) s at
 unfolding parse-group group-of group-end
@@ -59,14 +60,14 @@ some-turn q cp = some-choose (starts (q ∷ [])) (after-sign q cp) (refuse bad-c
 
 -- b is whether q stands at a place, and r the answer for the particle after it
 module _ (q : ℕ) (cp : Reader) (s : List ℕ) (at : ℕ) (b : Bool) (e : b ≡ starts (q ∷ []) (drop at s)) where
-  pub turn-other : (m : ℕ) → b ≡ false → m ≡ number bad-connector → No m ≡ read (turn q cp) s at
+  pub turn-other : (m : ℕ) → b ≡ false → m ≡ number bad-connector → No m at ≡ read (turn q cp) s at
   unfolding turn
-  turn-other m n f = choose-no (starts (q ∷ [])) (after-sign q cp) (refuse bad-connector) s at b (No m) e n (refused bad-connector m s at f)
+  turn-other m n f = choose-no (starts (q ∷ [])) (after-sign q cp) (refuse bad-connector) s at b (No m at) e n (refused bad-connector m s at f)
 
   module _ (y : b ≡ true) (i : ℕ) (r : Answer) (hi : i ≡ at + 1 + run space (drop (at + 1) s)) (hr : r ≡ read cp s i) where
-    pub turn-no : (n : ℕ) → r ≡ No n → r ≡ read (turn q cp) s at
+    pub turn-no : (n k : ℕ) → r ≡ No n k → r ≡ read (turn q cp) s at
     unfolding turn
-    turn-no n f = choose-yes (starts (q ∷ [])) (after-sign q cp) (refuse bad-connector) s at b r e y (after-no q cp s at b e y i r hi hr n f)
+    turn-no n k f = choose-yes (starts (q ∷ [])) (after-sign q cp) (refuse bad-connector) s at b r e y (after-no q cp s at b e y i r hi hr n k f)
 
     pub turn-at : (d j : ℕ) → r ≡ At d → j ≡ d + run space (drop d s) → At j ≡ read (turn q cp) s at
     unfolding turn

@@ -52,7 +52,7 @@ pub some-sign : (c : ℕ) (n : Refusal) (R : Reader) → Somes (word-of (c ∷ [
 unfolding word-of
 some-sign c n R = some-then (word-of (c ∷ []) n) R (record { some = λ b w. go (starts (c ∷ []) (b ∷ w)) })
   where
-    go : (t : Bool) (j : ℕ) → pick t (ok 1) (err n) ≡ ok j → 0 < j
+    go : (t : Bool) (j : ℕ) → pick t (ok 1) (err n 0) ≡ ok j → 0 < j
     go true j e = let z : 1 ≡ j = ok-inj 1 j e in omega arith
     go false j e = absurd (err-ok n j e)
 
@@ -69,8 +69,8 @@ abbrev pub after-sign : ℕ → Reader → Reader
 after-sign c R = word-of (c ∷ []) unexpected >> skip-s >> R >> skip-s
 
 module _ (c : ℕ) (R : Reader) (s : List ℕ) (at : ℕ) (b : Bool) (e : b ≡ starts (c ∷ []) (drop at s)) (y : b ≡ true) (i : ℕ) (r : Answer) (hi : i ≡ at + 1 + run space (drop (at + 1) s)) (hr : r ≡ read R s i) where
-  pub after-no : (n : ℕ) → r ≡ No n → r ≡ read (after-sign c R) s at
-  after-no n f = sign-then c s at b e y unexpected (skip-s >> R >> skip-s) r (skip-then s (at + 1) i hi (R >> skip-s) r (seq-no R skip-s s i n r hr f))
+  pub after-no : (n k : ℕ) → r ≡ No n k → r ≡ read (after-sign c R) s at
+  after-no n k f = sign-then c s at b e y unexpected (skip-s >> R >> skip-s) r (skip-then s (at + 1) i hi (R >> skip-s) r (seq-no R skip-s s i n k r hr f))
 
   pub after-at : (d j : ℕ) → r ≡ At d → j ≡ d + run space (drop d s) → At j ≡ read (after-sign c R) s at
   after-at d j f hj = sign-then c s at b e y unexpected (skip-s >> R >> skip-s) (At j) (skip-then s (at + 1) i hi (R >> skip-s) (At j) (seq-at R skip-s s i d r (At j) hr f (skip-only s d j hj)))

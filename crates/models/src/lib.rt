@@ -79,13 +79,13 @@ fn group_end(s: &[u8], at: usize, height: usize, names: Names) -> Answer
             };
             j = skip_s(s, e);
         } else {
-            return Answer::No(error::BAD_CONNECTOR);
+            return Answer::No(error::BAD_CONNECTOR, j);
         }
     }
     if at_sign(s, j, b')') {
         return Answer::At(j + 1);
     }
-    Answer::No(error::UNEXPECTED)
+    Answer::No(error::UNEXPECTED, j)
 }
 
 // [49] choice and [50] seq, where so many groups may yet be opened, itself counted.
@@ -93,10 +93,10 @@ fn parse_group(s: &[u8], at: usize, height: usize, names: Names) -> Answer
     ensures { λ r. ⌜ r ≡ read (parse-group (dialect names) height) (now (s .entry)) at ⌝ }
 {
     if height == 0 {
-        return Answer::No(error::TOO_DEEP);
+        return Answer::No(error::TOO_DEEP, at);
     }
     if !at_sign(s, at, b'(') {
-        return Answer::No(error::UNEXPECTED);
+        return Answer::No(error::UNEXPECTED, at);
     }
     let i = skip_s(s, at + 1);
     let first = parse_cp(s, i, height - 1, names);
@@ -132,13 +132,13 @@ fn mixed_names(s: &[u8], at: usize, names: Names) -> Answer
         j = skip_s(s, e);
     }
     if !at_sign(s, j, b')') {
-        return Answer::No(error::UNEXPECTED);
+        return Answer::No(error::UNEXPECTED, j);
     }
     let e = j + 1;
     if at_sign(s, e, b'*') {
         return Answer::At(e + 1);
     }
-    Answer::No(error::BAD_CONNECTOR)
+    Answer::No(error::BAD_CONNECTOR, e)
 }
 
 // [51] Mixed after "#PCDATA" and white space: without names the '*' may stand or not.
@@ -149,7 +149,7 @@ fn mixed_end(s: &[u8], at: usize, names: Names) -> Answer
         return mixed_names(s, at, names);
     }
     if !at_sign(s, at, b')') {
-        return Answer::No(error::UNEXPECTED);
+        return Answer::No(error::UNEXPECTED, at);
     }
     let e = at + 1;
     if at_sign(s, e, b'*') {
@@ -163,7 +163,7 @@ pub fn parse_mixed(s: &[u8], at: usize, names: Names) -> Answer
     ensures { λ r. ⌜ r ≡ read (parse-mixed (dialect names)) (now (s .entry)) at ⌝ }
 {
     if !at_sign(s, at, b'(') {
-        return Answer::No(error::UNEXPECTED);
+        return Answer::No(error::UNEXPECTED, at);
     }
     let i = skip_s(s, at + 1);
     let r = eat_str(s, i, b"#PCDATA", error::UNEXPECTED);
@@ -185,7 +185,7 @@ fn parse_model(s: &[u8], at: usize, names: Names) -> Answer
         }
         return parse_children(s, at, names);
     }
-    Answer::No(error::UNEXPECTED)
+    Answer::No(error::UNEXPECTED, at)
 }
 
 // [46] contentspec.

@@ -19,6 +19,9 @@ use Rattle.spec.specs.Reading.Wellformed.{parts, name, name-length, check-name}
 use Rattle.spec.proofs.Base.Tests.{or-false-left, or-false-right}
 use Rattle.spec.proofs.Base.Places.{drop-at, drop-end, take-rest}
 use Rattle.spec.proofs.Wellformed.LongestName.{char-is, char-not, char-none, chars-stop, chars-turn, parts-ok, parts-takes, name-first, name-none, Named, a-name, no-name, named, name-within, name-is-name, name-longest}
+use Rattle.error.specs.Read.{read}
+use Rattle.error.specs.declared.Answer.the-variants.{At, No}
+use Rattle.error.proofs.Laws.{answered}
 use Rattle.utf8.specs.Seen.{seen}
 use Rattle.utf8.specs.declared.Point.{Point}
 use Rattle.utf8.specs.declared.Point.the-variants.{Is, Not}
@@ -32,16 +35,16 @@ use Rattle.classes.proofs.ClassLaws.{start-low, part-low, start-part, sign-low}
 
 -- whether a character of the class q stands at i, by what the code tests
 module _ (q : ℕ → Bool) (s : List ℕ) (i : ℕ) where
-  pub none-past : length s ≤ i → char q bad-name (drop i s) ≡ err bad-name
+  pub none-past : length s ≤ i → char q bad-name (drop i s) ≡ err bad-name 0
   unfolding char decode1
   none-past h = rw (drop-end s i h)
 
   module _ (p : Point) (a : p ≡ seen (decode1 (drop i s))) where
-    pub none-point : p ≡ Not → char q bad-name (drop i s) ≡ err bad-name
+    pub none-point : p ≡ Not → char q bad-name (drop i s) ≡ err bad-name 0
     none-point b = char-none q bad-name (drop i s) (none-at s i p a b)
 
     module _ (c k : ℕ) (b : p ≡ Is c k) (r : Bool) (e : r ≡ q c) where
-      pub none-class : r ≡ false → char q bad-name (drop i s) ≡ err bad-name
+      pub none-class : r ≡ false → char q bad-name (drop i s) ≡ err bad-name 0
       none-class n = char-not q bad-name (drop i s) c k (code-at s i c k p a b) (sym e ∙ n)
 
       pub one-class : r ≡ true → char q bad-name (drop i s) ≡ ok k
@@ -49,7 +52,7 @@ module _ (q : ℕ → Bool) (s : List ℕ) (i : ℕ) where
 
   -- the same at a byte below 128
   module _ (r : Bool) (e : r ≡ q (getD s i 0)) (h : i < length s) (l : getD s i 0 < 128) where
-    pub none-low : r ≡ false → char q bad-name (drop i s) ≡ err bad-name
+    pub none-low : r ≡ false → char q bad-name (drop i s) ≡ err bad-name 0
     none-low = none-class (Is (getD s i 0) 1) (code-one s i h l) (getD s i 0) 1 refl r e
 
     pub one-low : r ≡ true → char q bad-name (drop i s) ≡ ok 1
@@ -57,7 +60,7 @@ module _ (q : ℕ → Bool) (s : List ℕ) (i : ℕ) where
 
 -- a run of name characters, of which i is the next place
 module _ (D : Dialect) (s : List ℕ) (i W : ℕ) (inv : i + taken (parts D (drop i s)) ≡ W) where
-  pub parts-stop : char (D .part) bad-name (drop i s) ≡ err bad-name → i ≡ W
+  pub parts-stop : char (D .part) bad-name (drop i s) ≡ err bad-name 0 → i ≡ W
   unfolding parts
   parts-stop e = rw (chars-stop (D .part) bad-name (drop i s) e, add-zero) at inv
 
@@ -112,7 +115,7 @@ module _ (D : Dialect) (s : List ℕ) (at e : ℕ) (a : e ≡ 0 + taken (parts D
 
 -- the name at a place, by its first character
 module _ (D : Dialect) (s : List ℕ) (at : ℕ) where
-  pub name-stop : char (D .start) bad-name (drop at s) ≡ err bad-name → at ≡ at + name-length D (drop at s)
+  pub name-stop : char (D .start) bad-name (drop at s) ≡ err bad-name 0 → at ≡ at + name-length D (drop at s)
   unfolding name-length
   name-stop e = rw (name-none D (drop at s) e, add-zero)
 
@@ -144,35 +147,41 @@ module _ (D : Dialect) (s : List ℕ) (at : ℕ) where
     pub part-at : NamePart D (drop at s) (take (e - at) (drop at s))
     part-at = let z : e - at ≡ name-length D (drop at s) = omega arith in part-is (take (e - at) (drop at s)) (rw z)
 
--- the number that a text has as a name, by where the name at its front ends
-module _ (D : Dialect) (w : List ℕ) (e : ℕ) (f : e ≡ 0 + name-length D (drop 0 w)) where
-  ends-at : (x : Result) → name D w ≡ x → e ≡ taken x
+-- what is read where only a name may stand, by where the name at the place ends
+module _ (D : Dialect) (s : List ℕ) (at e : ℕ) (f : e ≡ at + name-length D (drop at s)) where
+  ends-at : (x : Result) → name D (drop at s) ≡ x → e ≡ at + taken x
   unfolding name-length
-  ends-at x g = f ∙ (rw (g, zero-add))
+  ends-at x g = f ∙ (rw g)
 
-  pub number-none : e ≡ 0 → number bad-name ≡ number-of (check-name D w)
-  unfolding check-name _>>_
-  number-none z = go (named D w)
+  pub whole-none : e ≡ at → No (number bad-name) at ≡ read (check-name D) s at
+  unfolding read check-name _>>_
+  whole-none z = go (named D (drop at s))
     where
-      go : Named D w → number bad-name ≡ number-of (check-name D w)
+      go : Named D (drop at s) → No (number bad-name) at ≡ read (check-name D) s at
       go (a-name k p g t) = absurd (omega (arith, ends-at (ok k) g))
-      go (no-name g n) = rw g
+      go (no-name g n) = rw (g, add-zero)
 
-  pub number-more : e < length w → number bad-name ≡ number-of (check-name D w)
-  unfolding check-name _>>_ at-end
-  number-more h = go (named D w)
-    where
-      go : Named D w → number bad-name ≡ number-of (check-name D w)
-      go (a-name k p g t) = let l : k < length w = omega (arith, ends-at (ok k) g) in rw (g, drop-at w k l)
-      go (no-name g n) = rw g
+  module _ (some : e ≡ at → ⊥) where
+    a-name-to : (k : ℕ) × ((name D (drop at s) ≡ ok k) × (e ≡ at + k))
+    a-name-to = go (named D (drop at s))
+      where
+        go : Named D (drop at s) → (k : ℕ) × ((name D (drop at s) ≡ ok k) × (e ≡ at + k))
+        go (a-name k p g t) = (k, (g, ends-at (ok k) g))
+        go (no-name g n) = absurd (some (ends-at (err bad-name 0) g ∙ add-zero at))
 
-  pub number-whole : (e ≡ 0 → ⊥) → length w ≤ e → 0 ≡ number-of (check-name D w)
-  unfolding check-name _>>_ at-end
-  number-whole some h = go (named D w)
-    where
-      go : Named D w → 0 ≡ number-of (check-name D w)
-      go (a-name k p g t) = let l : length w ≤ k = omega (arith, ends-at (ok k) g) in rw (g, drop-end w k l)
-      go (no-name g n) = absurd (some (ends-at (err bad-name) g))
+    pub whole-more : e < length s → No (number bad-name) e ≡ read (check-name D) s at
+    unfolding read check-name _>>_ at-end
+    whole-more h =
+        let (k, (g, l)) = a-name-to in
+        let z : at + k < length s = omega arith in
+        ap (No (number bad-name)) l ∙ (rw (g, drop-drop, drop-at s (at + k) z, add-zero))
+
+    pub whole-all : length s ≤ e → At e ≡ read (check-name D) s at
+    unfolding read check-name _>>_ at-end
+    whole-all h =
+        let (k, (g, l)) = a-name-to in
+        let z : length s ≤ at + k = omega arith in
+        ap At l ∙ (rw (g, drop-drop, drop-end s (at + k) z, add-zero))
 
 -- a name of ASCII alone, whatever the edition: the name at the front of w goes on at i
 pub record Front (w : List ℕ) (i : ℕ) : Type 0 where
@@ -204,7 +213,7 @@ module _ (w : List ℕ) (t : Bool) where
       let a = inv (not-true t e) in
       record {
         accepted = λ names.
-            number-whole (dialect names) w i (parts-stop (dialect names) w i _ (a .onward names) (none-past (dialect names .part) w i h)) (λ z. omega (arith, a .some)) h;
+            answered (check-name (dialect names)) w (At i) 0 (whole-all (dialect names) w 0 i (parts-stop (dialect names) w i _ (a .onward names) (none-past (dialect names .part) w i h)) (λ z. omega (arith, a .some)) h) refl;
       }
 
   pub number-any : (names : Names) → t ≡ true → (t ≡ true → AnyName w) → 0 ≡ number-of (check-name (dialect names) w)
@@ -224,4 +233,4 @@ pub ruleset firsts = (none-past, none-point, none-class, one-class, none-low, on
 
 pub ruleset fronts = (not-found, front-start, front-go, front-whole, needs)
 
-pub ruleset whole = (number-any, part-past, part-within, part-at, number-none, number-more, number-whole, needs)
+pub ruleset whole = (number-any, part-past, part-within, part-at, whole-none, whole-more, whole-all, needs)

@@ -5,8 +5,13 @@ use classes::ascii_name_start;
 use classes::is_name_char;
 use classes::is_name_start_char;
 use error::ACCEPTED;
+use error::Answer;
 use error::BAD_NAME;
+use error::Stop;
+use error::number;
+use error::stopped;
 use source::admit;
+use source::admit_at;
 use utf8::Point;
 use utf8::code_point;
 ghost use mathlib.Core.Path.{_≡_};
@@ -14,10 +19,11 @@ ghost use mathlib.Core.Bool.{true};
 ghost use Prim.Native.Nat.{_+_};
 ghost use lib.ListN.{drop};
 ghost use Rattle.spec.specs.Grammar.Names.{Name};
-ghost use Rattle.spec.specs.Promises.{Checks};
+ghost use Rattle.spec.specs.Promises.{Checks, Stops};
 ghost use Rattle.spec.specs.Grammar.AppendixB.{appendix-B};
 ghost use Rattle.spec.specs.Reading.Readers.{number-of, taken};
 ghost use Rattle.spec.specs.Reading.Wellformed.{parts, name-length, check-name};
+ghost use Rattle.error.specs.Read.{read};
 ghost use Rattle.classes.specs.Classes.{dialect};
 ghost use Rattle.names.specs.Names.{AsciiRun, AnyName};
 ghost use Rattle.names.specs.NamePart.{NamePart};
@@ -126,6 +132,20 @@ pub fn parse_name(s: &[u8], at: usize, names: Names) -> &[u8]
     &s[at..e]
 }
 
+// check_name from a place on: [5] Name, and then the text's end.
+pub fn whole_name(s: &[u8], at: usize, names: Names) -> Answer
+    ensures { λ r. ⌜ r ≡ read (check-name (dialect names)) (now (s .entry)) at ⌝ }
+{
+    let e = name_end(s, at, names);
+    if e == at {
+        return Answer::No(BAD_NAME, at);
+    }
+    if e < s.len() {
+        return Answer::No(BAD_NAME, e);
+    }
+    Answer::At(e)
+}
+
 // The pass that accepts most names, of ASCII alone: no test ends the loop, so that it becomes vector code.
 fn is_ascii_name(text: &[u8]) -> bool
     ensures { λ r. ⌜ (r ≡ true → AnyName (now (text .entry))) ⌝ }
@@ -152,14 +172,8 @@ pub fn name_number(text: &[u8], names: Names) -> u8
     if is_ascii_name(text) {
         return ACCEPTED;
     }
-    let e = name_end(text, 0, names);
-    if e == 0 {
-        return BAD_NAME;
-    }
-    if e < text.len() {
-        return BAD_NAME;
-    }
-    ACCEPTED
+    let r = whole_name(text, 0, names);
+    number(r)
 }
 
 // check_name of the Rust: the whole text is a Name of Appendix B.
@@ -171,4 +185,15 @@ pub fn check_name(text: &[u8]) -> u8
         return n;
     }
     name_number(text, Names::AppendixB)
+}
+
+pub fn check_name_at(text: &[u8]) -> Stop
+    ensures { λ r. ⌜ Stops (check-name appendix-B) (now (text .entry)) (r .number) (r .place) ⌝ }
+{
+    let a = admit_at(text);
+    let Answer::At(_) = a else {
+        return stopped(a);
+    };
+    let r = whole_name(text, 0, Names::AppendixB);
+    stopped(r)
 }

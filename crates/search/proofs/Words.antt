@@ -4,6 +4,7 @@ use mathlib.Core.Bool.{Bool, true, false}
 use mathlib.Core.List.{List}
 use Prim.Native.Nat.{ℕ, _+_, _^_, _<_, _≤_}
 use Prim.Native.String.{String}
+use native.Mathlib.Nat.{add-zero}
 use native.Mathlib.Omega.{arith}
 use borrow.Author.Needs.{needs}
 use borrow.Author.Tests.{eq-eqb, ne-eqb}
@@ -61,15 +62,15 @@ module _ (p s : List ℕ) (at : ℕ) (b : Bool) (e : b ≡ starts p (drop at s))
   unfolding read word-of
   word-yes f = rw (sym e ∙ f)
 
-  pub word-no : (m : ℕ) → b ≡ false → m ≡ number n → No m ≡ read (word-of p n) s at
+  pub word-no : (m : ℕ) → b ≡ false → m ≡ number n → No m at ≡ read (word-of p n) s at
   unfolding read word-of
-  word-no m f g = rw (sym e ∙ f, g)
+  word-no m f g = rw (sym e ∙ f, g, add-zero)
 
   pub word-then : (B : Reader) (q : Answer) → b ≡ true → q ≡ read B s (at + length p) → q ≡ read (word-of p n >> B) s at
   word-then B q f a = seq-at (word-of p n) B s at (at + length p) (At (at + length p)) q (word-yes f) refl a
 
-  pub word-not : (m : ℕ) (B : Reader) → b ≡ false → m ≡ number n → No m ≡ read (word-of p n >> B) s at
-  word-not m B f g = seq-no (word-of p n) B s at m (No m) (word-no m f g) refl
+  pub word-not : (m : ℕ) (B : Reader) → b ≡ false → m ≡ number n → No m at ≡ read (word-of p n >> B) s at
+  word-not m B f g = seq-no (word-of p n) B s at m at (No m at) (word-no m f g) refl
 
 -- what at_keyword searches, and what code that goes by words searches
 pub ruleset matching = (starts-past, starts-other, starts-more, starts-whole, needs)

@@ -9,6 +9,5 @@ pub use bytes::find_byte;
 pub use keywords::at_keyword;
 pub use places::Found;
 pub use places::find;
-pub use places::has;
 pub use places::has_byte;
 pub use quotes::outside_quotes;

@@ -1,4 +1,4 @@
-// The first place of a fixed word, and whether there is one: what the Rust's `find` and `contains` do.
+// The first place of a fixed word, and whether a byte has one: what the Rust's `find` and `contains` do.
 use crate::bytes::find_byte;
 use crate::keywords::at_keyword;
 ghost use mathlib.Core.Path.{_≡_};
@@ -36,17 +36,6 @@ pub fn has_byte(t: &[u8], b: u8) -> bool
     ensures { λ r. ⌜ r ≡ contains (b ∷ []) (now (t .entry)) ⌝ }
 {
     let r = find_byte(t, 0, b);
-    match r {
-        Found::Here(_) => true,
-        Found::Nowhere => false,
-    }
-}
-
-// Whether kw stands anywhere in the text.
-pub fn has(t: &[u8], kw: &[u8]) -> bool
-    ensures { λ r. ⌜ r ≡ contains (now (kw .entry)) (now (t .entry)) ⌝ }
-{
-    let r = find(t, 0, kw);
     match r {
         Found::Here(_) => true,
         Found::Nowhere => false,

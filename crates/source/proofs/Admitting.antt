@@ -31,9 +31,9 @@ module _ (w : List ℕ) (b : Bool) (h : length w ≤ limit) (e : b ≡ accepts (
   unfolding checked admit nothing
   admit-utf8 = rw (leb-no (suc limit) (length w) (omega arith)) (go (utf8-cases w))
     where
-      go : Text w ⊎ (utf8 w ≡ err not-utf8) → pick b 0 2 ≡ number-of (on-ok (utf8 w) (λ k. nothing w))
+      go : Text w ⊎ ((k : ℕ) × (utf8 w ≡ err not-utf8 k)) → pick b 0 2 ≡ number-of (on-ok (utf8 w) (λ k. nothing w))
       go (inl t) = rw (e, utf8-complete w t)
-      go (inr f) = rw (e, f)
+      go (inr (k, f)) = rw (e, f)
 
   pub admit-yes : b ≡ true → 0 ≡ checked nothing w
   admit-yes f = rw f at admit-utf8
@@ -44,7 +44,7 @@ module _ (w : List ℕ) (b : Bool) (h : length w ≤ limit) (e : b ≡ accepts (
 -- a rule that agrees with the grammar decides by whether it takes the text
 accepts-ok : (x : Result) → accepts x ≡ true → (k : ℕ) × (x ≡ ok k)
 accepts-ok (ok k) e = (k, refl)
-accepts-ok (err r) e = absurd (true≢false (sym e))
+accepts-ok (err r j) e = absurd (true≢false (sym e))
 
 pub decides : {rule : Reader} {L : Lang} → Agrees rule L → Decides (λ w. accepts (rule w)) L
 decides {rule} {L} a =

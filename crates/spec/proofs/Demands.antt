@@ -14,7 +14,7 @@ use Rattle.spec.specs.Grammar.Doctype.{doctypedecl, Misc}
 use Rattle.spec.specs.Grammar.Names.{Dialect, Name, NCName, with-groups, with-beyond}
 use Rattle.spec.specs.Grammar.References.{Referred, CharData, AttText}
 use Rattle.spec.specs.Grammar.XmlDecl.{XMLDecl}
-use Rattle.spec.specs.Promises.{Checks, Tells, Covered, expected}
+use Rattle.spec.specs.Promises.{Checks, Stops, Tells, Covered, expected}
 use Rattle.spec.specs.Reading.Checks.{check-declaration, is-ncname}
 use Rattle.spec.specs.Reading.Dtd.{check-doctype}
 use Rattle.spec.specs.Reading.Prolog.{declaration, doctype, doctype-end, next-item}
@@ -22,10 +22,9 @@ use Rattle.spec.specs.Reading.Readers.{ok, err, Reader, nothing}
 use Rattle.spec.specs.Reading.Refusals.{Refusal}
 use Rattle.spec.specs.Reading.Places.{at}
 use Rattle.spec.specs.Reading.Scan.{scan}
-use Rattle.spec.specs.Reading.Source.{admit, checked}
-use Rattle.spec.specs.Reading.Stops.{passed, stopped, doctype-progress, stop-place, char-place}
+use Rattle.spec.specs.Reading.Source.{admit, checked, checked-at}
 use Rattle.spec.specs.Reading.Wellformed.{illegal-here, check-chars, check-char-refs, check-text, check-attr-value, check-name}
-use Rattle.spec.specs.Rows.{rows}
+use Rattle.spec.specs.Rows.{rows, spots}
 use Rattle.spec.specs.Grammar.Languages.{Lang, ascii, Star}
 use Rattle.spec.proofs.Agreement.Accepts.{promise, tells}
 use Rattle.spec.proofs.Characters.AppendixB.{appendix-B-ascii}
@@ -35,12 +34,12 @@ use Rattle.spec.proofs.Division.Places.{divided, apart, one-division}
 use Rattle.spec.proofs.Division.Promised.{cuts-covered}
 use Rattle.spec.proofs.Dtd.Depth.{met-exactly-B, deeper-same-B}
 use Rattle.spec.proofs.Dtd.Texts.{doctype-agrees}
+use Rattle.spec.proofs.Inside.Chars.{illegal-there, none-before}
+use Rattle.spec.proofs.Inside.Checks.{chars-placed, char-refs-placed, text-placed, attr-value-placed, name-placed, doctype-placed, declaration-placed}
 use Rattle.spec.proofs.Prolog.Handed.{doctype-handed, declaration-handed}
 use Rattle.spec.proofs.Prolog.Heads.{doctype-ends}
 use Rattle.spec.proofs.Rows
 use Rattle.spec.proofs.Rows.{All}
-use Rattle.spec.proofs.Stops.Chars.{chars-stop-at, chars-none-before}
-use Rattle.spec.proofs.Stops.Tracks.{stops-where-refused, passes-where-accepted, end-where-accepted}
 use Rattle.spec.proofs.Wellformed.Checks.{chars-agree, char-refs-agree, text-agree, attr-value-agree, name-agrees}
 use Rattle.spec.proofs.Wellformed.Names.{AsciiNames}
 
@@ -82,8 +81,8 @@ pub sixteen-rows : All Rows.Right rows
 sixteen-rows = Rows.rows-right
 
 -- 20 is the answer exactly where the text may be looked at and a 65th open group is the first thing refused: whatever one more group is
--- refused with, that is the answer then
-pub groups-exactly : (w : List ℕ) → (checked (check-doctype appendix-B) w ≡ 20) ↔ (((k : ℕ) × (admit w ≡ ok k)) × ((r : Refusal) → check-doctype (with-beyond appendix-B r) w ≡ err r))
+-- refused with, that is the answer then, at the same place
+pub groups-exactly : (w : List ℕ) → (checked (check-doctype appendix-B) w ≡ 20) ↔ (((k : ℕ) × (admit w ≡ ok k)) × ((k : ℕ) × ((r : Refusal) → check-doctype (with-beyond appendix-B r) w ≡ err r k)))
 groups-exactly = met-exactly-B
 
 -- and that limit changes no answer but 20
@@ -106,20 +105,41 @@ one-way-only = one-division appendix-B appendix-B-ascii
 pub cut-anywhere : (t : List ℕ) (c : Covered appendix-B t) (cut : ℕ) → scan (take cut t) ≡ expected appendix-B c cut
 cut-anywhere = cuts-covered appendix-B appendix-B-ascii
 
--- Where a DOCTYPE went wrong: the progress stops just where the order of reading refuses, at a place of the text. What is accepted is
--- passed, up to the text's end.
-pub refused-stops : (w : List ℕ) (r : Refusal) → check-doctype appendix-B w ≡ err r → (k : ℕ) × ((doctype-progress appendix-B w ≡ stopped k) × (k ≤ length w))
-refused-stops = stops-where-refused appendix-B
+-- Every refusal has a place, and it lies within the text, 1 and 2 included; what is accepted is read to the text's end.
+abbrev Located : Reader → Type 0
+Located rule = (w : List ℕ) → Stops rule w (checked rule w) (checked-at rule w)
 
-pub accepted-passes : (w : List ℕ) (k : ℕ) → check-doctype appendix-B w ≡ ok k → (doctype-progress appendix-B w ≡ passed k) × (stop-place appendix-B w ≡ length w)
-accepted-passes w k e = (passes-where-accepted appendix-B w k e, end-where-accepted appendix-B w k e)
+pub chars-located : Located check-chars
+chars-located w = chars-placed .stops w _ _ refl refl
 
--- Where the characters are refused (18), an illegal one begins at the place that is told, and none before it.
-pub illegal-told : (w : List ℕ) (r : Refusal) → check-chars w ≡ err r → (illegal-here (drop (char-place w) w) ≡ true) × (char-place w ≤ length w)
-illegal-told = chars-stop-at
+pub char-refs-located : Located check-char-refs
+char-refs-located w = char-refs-placed .stops w _ _ refl refl
 
-pub legal-before : (w : List ℕ) (i : ℕ) → i < char-place w → illegal-here (drop i w) ≡ false
-legal-before = chars-none-before
+pub text-located : Located check-text
+text-located w = text-placed .stops w _ _ refl refl
+
+pub attr-value-located : Located check-attr-value
+attr-value-located w = attr-value-placed .stops w _ _ refl refl
+
+pub name-located : Located (check-name appendix-B)
+name-located w = name-placed appendix-B .stops w _ _ refl refl
+
+pub doctype-located : Located (check-doctype appendix-B)
+doctype-located w = doctype-placed appendix-B .stops w _ _ refl refl
+
+pub declaration-located : Located check-declaration
+declaration-located w = declaration-placed .stops w _ _ refl refl
+
+-- Each text of the table that shows places is refused with its number where its second piece begins.
+pub places-shown : All Rows.Met spots
+places-shown = Rows.spots-met
+
+-- Where the characters are refused (18), an illegal one begins at that place, and none before it.
+pub illegal-told : (w : List ℕ) (r : Refusal) (k : ℕ) → check-chars w ≡ err r k → illegal-here (drop k w) ≡ true
+illegal-told = illegal-there
+
+pub legal-before : (w : List ℕ) (r : Refusal) (k i : ℕ) → check-chars w ≡ err r k → i < k → illegal-here (drop i w) ≡ false
+legal-before = none-before
 
 -- The command's part: of a text that demand 3 speaks of, the prolog's rule finds the end where it stands, and hands over that very text,
 -- whatever white space, comments and instructions stand before the DOCTYPE.

@@ -3,9 +3,9 @@ pub mod Characters
 pub mod Agreement
 pub mod Wellformed
 pub mod Dtd
+pub mod Inside
 pub mod Checks
 pub mod Rows
 pub mod Division
 pub mod Prolog
-pub mod Stops
 pub mod Demands

@@ -15,7 +15,7 @@ use Rattle.spec.specs.Premise.{bare, premise, promised}
 use Rattle.spec.specs.Reading.Dtd.{check-doctype}
 use Rattle.spec.specs.Reading.Readers.{Reader, nothing}
 use Rattle.spec.specs.Reading.Scan.{Scan, not-opened}
-use Rattle.spec.specs.Reading.Source.{limit, checked}
+use Rattle.spec.specs.Reading.Source.{limit, checked, checked-at}
 
 -- a text that may be looked at, and that the grammar derives
 abbrev pub Accepted : Lang → List ℕ → Type 0
@@ -25,6 +25,14 @@ Accepted L w = (length w ≤ limit) × L w
 pub record Checks (rule : Reader) (L : Lang) (w : List ℕ) (n : ℕ) : Type 0 where
   pub number : n ≡ checked rule w
   pub grammar : (n ≡ 0) ↔ Accepted L w
+
+-- a check answers with n and the place p: both are the order of reading's, 1 and 2 included; the place lies within the text, and is its
+-- end where the text is accepted
+pub record Stops (rule : Reader) (w : List ℕ) (n p : ℕ) : Type 0 where
+  pub number : n ≡ checked rule w
+  pub place : p ≡ checked-at rule w
+  pub within : p ≤ length w
+  pub whole : n ≡ 0 → p ≡ length w
 
 -- a yes-or-no call answers with n and yes: n is 1 or 2, which come with no, or 0
 pub record Tells (L : Lang) (w : List ℕ) (n : ℕ) (yes : Bool) : Type 0 where

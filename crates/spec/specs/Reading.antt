@@ -10,4 +10,3 @@ pub mod Checks
 pub mod Scan
 pub mod Gate
 pub mod Prolog
-pub mod Stops

@@ -1,4 +1,4 @@
--- Document 01's sixteen texts and their numbers. Assumes nothing.
+-- Document 01's sixteen texts and their numbers; and texts with the places at which they are refused. Assumes nothing.
 use mathlib.Core.List.{List, [], _∷_}
 use Prim.Native.Nat.{ℕ}
 use Prim.Native.String.{String}
@@ -48,4 +48,48 @@ rows =
     ∷ row doctype "a[<?Xml?>]" 11
     ∷ row declaration "xml version=\"1.\"" 17
     ∷ row declaration "xml version=\"1.0\"encoding=\"u\"" 3
+    ∷ []
+
+-- A text in two pieces: it is refused where the second begins.
+pub record Spot : Type 0 where
+  pub subject : Subject
+  pub read-well : String
+  pub from-there : String
+  pub answer : ℕ
+
+abbrev pub spot : Subject → String → String → ℕ → Spot
+spot x s t n = record { subject = x; read-well = s; from-there = t; answer = n }
+
+abbrev pub spots : List Spot
+spots =
+    -- something missing: where it was expected
+    spot doctype "" "" 4
+    ∷ spot doctype "a SYSTEM" "" 3
+    ∷ spot doctype "a SYSTEM " "s" 6
+    ∷ spot doctype "a[]" "b" 9
+    ∷ spot doctype "a[" "b]" 8
+    ∷ spot doctype "a[<!ELEMENT b" "(c)>]" 3
+    ∷ spot doctype "a[<!ELEMENT b (#PCDATA|c)" ">]" 13
+    ∷ spot doctype "a[<!ENTITY e " "d>]" 8
+    ∷ spot doctype "a[<!ATTLIST b\n c CDATA #IMPLIED\n d CDATA" "\"e\"\n f ID #REQUIRED>]" 3
+    ∷ spot declaration "xml version=\"1.0\"" "encoding=\"u\"" 3
+    -- something wrong: where it stands
+    ∷ spot doctype "a[<!ENTITY e \"" "&#x;\">]" 15
+    ∷ spot doctype "a[<!ENTITY e \"d" "&#4294967361;\">]" 16
+    ∷ spot doctype "a[<!ATTLIST b c CDATA \"&#60;" "<\">]" 14
+    ∷ spot doctype "a PUBLIC \"p" "^\" \"s\"" 10
+    ∷ spot doctype "a[<!--b" "--c-->]" 12
+    ∷ spot doctype "a[<!ENTITY b" ":c \"\">]" 5
+    ∷ spot doctype "a[<?b" ":c?>]" 5
+    ∷ spot doctype "a[<?" "Xml?>]" 11
+    ∷ spot doctype "a[<!ELEMENT b (c,d" "|e)>]" 13
+    ∷ spot doctype "a[<!ELEMENT b ((((((((((((((((((((((((((((((((((((((((((((((((((((((((((((((((" "(c)>]" 20
+    ∷ spot doctype "a[%p;" "<![IGNORE[]]>]" 8
+    ∷ spot declaration "xml version=\"" "1.\"" 17
+    -- something unterminated: directly behind the sign that opened it; a subset: at the text's end
+    ∷ spot doctype "a SYSTEM \"" "s" 7
+    ∷ spot doctype "a[<!ELEMENT" " b (c)" 7
+    ∷ spot doctype "a[<!--" "b--" 7
+    ∷ spot doctype "a[<?" "b" 7
+    ∷ spot doctype "a[%p; " "" 7
     ∷ []

@@ -12,7 +12,8 @@ use Rattle.spec.specs.Basics.{pick}
 use Rattle.spec.specs.Grammar.Names.{Dialect}
 use Rattle.spec.specs.Reading.Readers.{ok, Reader, on-ok, nothing}
 use Rattle.spec.specs.Reading.Dtd.{take-decl-body, has-pe-reference, finish-decl}
-use Rattle.spec.proofs.Stops.Inside.{body-within}
+use Rattle.cursor.proofs.Reading.{left-of}
+use Rattle.spec.proofs.Inside.Readers.{body-within}
 use Rattle.error.specs.Read.{placed, read}
 use Rattle.error.specs.declared.Answer.{Answer}
 use Rattle.error.specs.declared.Answer.the-variants.{At, No}
@@ -42,9 +43,9 @@ module _ (s : List ℕ) (at : ℕ) (r : Answer) (a : r ≡ read take-decl-body s
   finish-fits l = let h = body-in in omega arith
 
 module _ (D : Dialect) (B : Reader) (pe : Bool) (s : List ℕ) (at : ℕ) (r : Answer) (a : r ≡ read take-decl-body s at) where
-  pub finish-no : (n : ℕ) → r ≡ No n → r ≡ read (finish-decl D pe B) s at
+  pub finish-no : (n k : ℕ) → r ≡ No n k → r ≡ read (finish-decl D pe B) s at
   unfolding read finish-decl
-  finish-no n e = let (m, (f, g)) = was-err take-decl-body s at n r a e in g ∙ (rw f)
+  finish-no n k e = let (m, (j, (f, g))) = was-err take-decl-body s at n k r a e in g ∙ (rw f)
 
   module _ (end : ℕ) (e : r ≡ At end) where
     -- what is answered after the body, by whether it is read
@@ -65,20 +66,20 @@ module _ (D : Dialect) (B : Reader) (pe : Bool) (s : List ℕ) (at : ℕ) (r : A
       unfolding nothing
       finish-unread f = end-place ∙ sym (after-body true (rw (n, sym h ∙ f)))
 
-      module _ (f : t ≡ false) (q : Answer) (b : q ≡ read B (take (end - at) (drop at s)) 0) where
-        pub finish-refused : (m : ℕ) → q ≡ No m → q ≡ read (finish-decl D pe B) s at
-        finish-refused m g =
-            let (x, (i, j)) = was-err B (take (end - at) (drop at s)) 0 m q b g in
-            j ∙ sym (after-body false (rw (n, sym h ∙ f)) ∙ (rw i))
+      module _ (f : t ≡ false) (q : Answer) (b : q ≡ read B (take (end - 0) (drop 0 s)) at) where
+        pub finish-refused : (m k : ℕ) → q ≡ No m k → q ≡ read (finish-decl D pe B) s at
+        finish-refused m k g =
+            let (x, (y, (i, j))) = was-err B (take (end - 0) (drop 0 s)) at m k q b g in
+            j ∙ sym (after-body false (rw (n, sym h ∙ f)) ∙ (rw (← left-of at end s, i)))
 
         pub finish-read : (m : ℕ) → q ≡ At m → At (end + 1) ≡ read (finish-decl D pe B) s at
         finish-read m g =
-            let (x, (i, j)) = was-ok B (take (end - at) (drop at s)) 0 m q b g in
-            end-place ∙ sym (after-body false (rw (n, sym h ∙ f)) ∙ (rw i))
+            let (x, (i, j)) = was-ok B (take (end - 0) (drop 0 s)) at m q b g in
+            end-place ∙ sym (after-body false (rw (n, sym h ∙ f)) ∙ (rw (← left-of at end s, i)))
 
 -- the reader of a body by the kind of its declaration
-pub body-kind : (D : Dialect) (kind k : Kind) (s : List ℕ) (r : Answer) → kind ≡ k → r ≡ read (body-of D k) s 0 → r ≡ read (body-of D kind) s 0
-body-kind D kind k s r e a = rw (e, a)
+pub body-kind : (D : Dialect) (kind k : Kind) (s : List ℕ) (at : ℕ) (r : Answer) → kind ≡ k → r ≡ read (body-of D k) s at → r ≡ read (body-of D kind) s at
+body-kind D kind k s at r e a = rw (e, a)
 
 -- what searches the end of a declaration, and its body's kind
 pub ruleset finishing = (finish-no, finish-used, finish-unread, finish-refused, finish-read, finish-fits, body-from, body-to, needs)

@@ -3,6 +3,7 @@ use mathlib.Core.Path.{_≡_, refl, sym, ap, _∙_}
 use mathlib.Core.Bool.{Bool, true, false, and-true}
 use mathlib.Core.List.{List, [], _∷_}
 use Prim.Native.Nat.{ℕ, _+_, _-_, _^_, _<_, _≤_}
+use native.Mathlib.Nat.{add-zero}
 use native.Mathlib.Omega.{arith}
 use borrow.Author.Needs.{needs}
 use borrow.Author.Tests.{eq-eqb, ne-eqb}
@@ -67,8 +68,8 @@ module _ (D : Dialect) (pe : Bool) (s : List ℕ) (i₀ i b : ℕ) (W : Answer) 
     unfolding read item on choose
     by-reference = (rw (isn't 93 (λ z. omega arith) n, is 37 (λ z. omega arith) f)) ∙ here
 
-    pub item-reference-no : (m : ℕ) → r ≡ No m → r ≡ W
-    item-reference-no m g = seq-no (parse-pe-reference D) (items D true) s i m r a g ∙ by-reference
+    pub item-reference-no : (m k : ℕ) → r ≡ No m k → r ≡ W
+    item-reference-no m k g = seq-no (parse-pe-reference D) (items D true) s i m k r a g ∙ by-reference
 
     pub item-reference : (j : ℕ) → r ≡ At j → read (items D true) s j ≡ W
     item-reference j g = seq-at (parse-pe-reference D) (items D true) s i j r _ a g refl ∙ by-reference
@@ -82,8 +83,8 @@ module _ (D : Dialect) (pe : Bool) (s : List ℕ) (i₀ i b : ℕ) (W : Answer) 
     unfolding read item on choose
     by-markup = (rw (isn't 93 (λ z. omega arith) n, isn't 37 (λ z. omega arith) m, is 60 (λ z. omega arith) f)) ∙ here
 
-    pub item-markup-no : (k : ℕ) → r ≡ No k → r ≡ W
-    item-markup-no k g = seq-no (parse-markup-decl D pe) (items D pe) s i k r a g ∙ by-markup
+    pub item-markup-no : (k o : ℕ) → r ≡ No k o → r ≡ W
+    item-markup-no k o g = seq-no (parse-markup-decl D pe) (items D pe) s i k o r a g ∙ by-markup
 
     pub item-markup : (j : ℕ) → r ≡ At j → read (items D pe) s j ≡ W
     item-markup j g = seq-at (parse-markup-decl D pe) (items D pe) s i j r _ a g refl ∙ by-markup
@@ -97,13 +98,13 @@ module _ (D : Dialect) (pe : Bool) (s : List ℕ) (i₀ i b : ℕ) (W : Answer) 
     unfolding read item on choose
     by-rest = (rw (isn't 93 (λ z. omega arith) n, isn't 37 (λ z. omega arith) m, isn't 60 (λ z. omega arith) f)) ∙ here
 
-    pub item-other : i < length s → No (number unexpected) ≡ W
+    pub item-other : i < length s → No (number unexpected) i ≡ W
     unfolding read _>>_ at-end
-    item-other l = (rw (drop-at s i l)) ∙ by-rest
+    item-other l = (rw (drop-at s i l, add-zero)) ∙ by-rest
 
-    pub item-none : length s ≤ i → No (number unterminated) ≡ W
+    pub item-none : length s ≤ i → No (number unterminated) i ≡ W
     unfolding read _>>_ at-end refuse
-    item-none l = (rw (drop-end s i l)) ∙ by-rest
+    item-none l = (rw (drop-end s i l, add-zero)) ∙ by-rest
 
 -- the subset is the items from its '[' on
 pub subset-starts : (D : Dialect) (s : List ℕ) (at : ℕ) → read (items D false) s at ≡ read (parse-internal-subset D) s at

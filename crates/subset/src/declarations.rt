@@ -31,10 +31,10 @@ pub enum Kind {
 }
 
 // [45] elementdecl, its body
-fn parse_element_decl(body: &[u8], names: Names) -> Answer
-    ensures { λ r. ⌜ r ≡ read (parse-element-decl (dialect names)) (now (body .entry)) 0 ⌝ }
+fn parse_element_decl(body: &[u8], at: usize, names: Names) -> Answer
+    ensures { λ r. ⌜ r ≡ read (parse-element-decl (dialect names)) (now (body .entry)) at ⌝ }
 {
-    let r = require_s(body, 0);
+    let r = require_s(body, at);
     let Answer::At(i) = r else {
         return r;
     };
@@ -54,15 +54,15 @@ fn parse_element_decl(body: &[u8], names: Names) -> Answer
     at_end(body, i)
 }
 
-// A body as a text of its own, by the kind of its declaration.
-fn parse_body(kind: Kind, body: &[u8], names: Names) -> Answer
-    ensures { λ r. ⌜ r ≡ read (body-of (dialect names) kind) (now (body .entry)) 0 ⌝ }
+// A body, by the kind of its declaration: it begins at `at`, and its end is the text's.
+fn parse_body(kind: Kind, body: &[u8], at: usize, names: Names) -> Answer
+    ensures { λ r. ⌜ r ≡ read (body-of (dialect names) kind) (now (body .entry)) at ⌝ }
 {
     match kind {
-        Kind::Element => parse_element_decl(body, names),
-        Kind::Attlist => parse_attlist_decl(body, names),
-        Kind::Entity => parse_entity_decl(body, names),
-        Kind::Notation => parse_notation_decl(body, names),
+        Kind::Element => parse_element_decl(body, at, names),
+        Kind::Attlist => parse_attlist_decl(body, at, names),
+        Kind::Entity => parse_entity_decl(body, at, names),
+        Kind::Notation => parse_notation_decl(body, at, names),
     }
 }
 
@@ -77,11 +77,10 @@ fn finish_decl(s: &[u8], at: usize, pe_used: bool, kind: Kind, names: Names) -> 
     if pe_used {
         return Answer::At(end + 1);
     }
-    let body = &s[at..end];
-    if has_pe_reference(body, names) {
+    if has_pe_reference(&s[at..end], names) {
         return Answer::At(end + 1);
     }
-    let r = parse_body(kind, body, names);
+    let r = parse_body(kind, &s[0..end], at, names);
     let Answer::At(_) = r else {
         return r;
     };
@@ -129,7 +128,7 @@ pub fn parse_markup_decl(s: &[u8], at: usize, pe_used: bool, names: Names) -> An
         return parse_comment(s, at);
     }
     if at_keyword(s, at, b"<![") {
-        return Answer::No(UNEXPECTED);
+        return Answer::No(UNEXPECTED, at);
     }
     parse_declaration(s, at, pe_used, names)
 }

@@ -42,8 +42,8 @@ pub fn parse_internal_subset(s: &[u8], at: usize, names: Names) -> Answer
             continue;
         }
         if here < s.len() {
-            return Answer::No(UNEXPECTED);
+            return Answer::No(UNEXPECTED, here);
         }
-        return Answer::No(UNTERMINATED);
+        return Answer::No(UNTERMINATED, here);
     }
 }

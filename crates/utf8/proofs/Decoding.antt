@@ -1,18 +1,23 @@
 -- Laws of decoding: one code point, and a text from its front. Assumes nothing.
 use mathlib.Core.Path.{_≡_, refl, sym, ap, _∙_}
 use mathlib.Core.Bool.{Bool, true, false}
-use mathlib.Core.List.{List}
+use mathlib.Core.List.{List, _∷_}
 use Prim.Native.Nat.{ℕ, _+_, _-_, _*_, _%_, _<_, _≤_}
+use native.Mathlib.Nat.{add-zero, zero-add}
 use native.Mathlib.Omega.{arith}
 use borrow.Author.Needs.{needs}
+use lib.Dec.{eqb}
 use lib.ListN.{length, getD, take, drop}
 use lib.Seq.{drop-drop, getD-drop}
 use Rattle.spec.specs.Reading.Utf8.{point, two, three, four, decode4, decode1}
-use Rattle.spec.specs.Reading.Readers.{Result, ok, err, past}
+use Rattle.spec.specs.Reading.Readers.{Result, ok, err, stop-of, past}
 use Rattle.spec.specs.Reading.Source.{utf8}
 use Rattle.spec.proofs.Base.Places.{drop-at, drop-end, byte-past, take-rest}
+use Rattle.spec.proofs.Base.Results.{ok-inj}
+use Rattle.spec.proofs.Base.Tests.{eqb-yes, eqb-no}
 use Rattle.spec.proofs.Characters.Utf8.{decode4-1, decode4-2, decode4-3, decode4-4, decode4-no}
-use Rattle.spec.proofs.Characters.Valid.{utf8-end, utf8-turn, utf8-stop}
+use Rattle.spec.proofs.Characters.Valid.{utf8-end, utf8-turn, utf8-stop, utf8-sound, utf8-complete, utf8-inside}
+use Rattle.spec.proofs.Inside.Ways.{stop-past}
 use Rattle.utf8.specs.Seen.{seen, accepts}
 use Rattle.utf8.specs.declared.Point.{Point}
 use Rattle.utf8.specs.declared.Point.the-variants.{Is, Not}
@@ -72,7 +77,7 @@ code-rest s at r a = a ∙ (rw (take-rest s at))
 -- a text from its front: a code point decides as little as its absence decides all
 accepts-past : (k : ℕ) (x : Result) → accepts (past k x) ≡ accepts x
 accepts-past k (ok j) = refl
-accepts-past k (err r) = refl
+accepts-past k (err r j) = refl
 
 pub accepts-turn : (w : List ℕ) (c k : ℕ) → decode1 w ≡ point c k → accepts (utf8 w) ≡ accepts (utf8 (drop k w))
 accepts-turn w c k e = ap accepts (utf8-turn w c k e) ∙ accepts-past k (utf8 (drop k w))
@@ -81,18 +86,38 @@ module _ (s : List ℕ) (i : ℕ) (inv : accepts (utf8 (drop i s)) ≡ accepts (
   pub valid-end : length s ≤ i → true ≡ accepts (utf8 s)
   valid-end h = rw (drop-end s i h, utf8-end) at inv
 
-module _ (s : List ℕ) (i : ℕ) (p : Point) (h : i < length s) (a : p ≡ seen (decode1 (drop i s))) (inv : accepts (utf8 (drop i s)) ≡ accepts (utf8 s)) where
-  pub valid-no : p ≡ Not → false ≡ accepts (utf8 s)
-  valid-no e =
-      let d = drop-at s i h in
-      sym (ap accepts (ap utf8 d ∙ utf8-stop (getD s i 0) (drop (i + 1) s) (ap decode1 (sym d) ∙ none-at s i p a e))) ∙ inv
+-- The loop over code points. The invariant: from i on it stops where the whole does.
+pub end-holds : (s : List ℕ) → 0 + stop-of (utf8 (drop 0 s)) ≡ stop-of (utf8 s)
+end-holds s = zero-add (stop-of (utf8 s))
 
-  pub valid-go : (c k : ℕ) → p ≡ Is c k → accepts (utf8 (drop (i + k) s)) ≡ accepts (utf8 s)
-  valid-go c k e = (rw (← drop-drop)) ∙ sym (accepts-turn (drop i s) c k (code-at s i c k p a e)) ∙ inv
+module _ (s : List ℕ) (i : ℕ) (inv : i + stop-of (utf8 (drop i s)) ≡ stop-of (utf8 s)) where
+  pub end-all : length s ≤ i → i ≡ stop-of (utf8 s)
+  end-all h = rw (drop-end s i h, utf8-end, add-zero) at inv
+
+  module _ (p : Point) (a : p ≡ seen (decode1 (drop i s))) where
+    pub end-none : i < length s → p ≡ Not → i ≡ stop-of (utf8 s)
+    end-none h b =
+        let d : decode1 (getD s i 0 ∷ drop (i + 1) s) ≡ _ = ap decode1 (sym (drop-at s i h)) ∙ none-at s i p a b in
+        rw (drop-at s i h, utf8-stop (getD s i 0) (drop (i + 1) s) d, add-zero) at inv
+
+    pub end-go : (c n : ℕ) → p ≡ Is c n → i + n + stop-of (utf8 (drop (i + n) s)) ≡ stop-of (utf8 s)
+    end-go c n b =
+        let t : stop-of (utf8 (drop i s)) ≡ n + stop-of (utf8 (drop (i + n) s)) = ap stop-of (utf8-turn (drop i s) c n (code-at s i c n p a b)) ∙ stop-past n (utf8 (drop n (drop i s))) ∙ (rw drop-drop) in
+        omega arith
+
+-- it stops at the text's end exactly if it takes the text
+pub end-tells : (s : List ℕ) (e : ℕ) → e ≡ stop-of (utf8 s) → eqb e (length s) ≡ accepts (utf8 s)
+end-tells s e f = go (utf8 s) refl f
+  where
+    go : (x : Result) → utf8 s ≡ x → e ≡ stop-of x → eqb e (length s) ≡ accepts x
+    go (ok k) g h =
+        let y : ok k ≡ ok (length s) = sym g ∙ utf8-complete s (utf8-sound s k g) in
+        eqb-yes e (length s) (h ∙ ok-inj k (length s) y)
+    go (err r k) g h = let l = utf8-inside s r k g in eqb-no e (length s) (λ z. omega arith)
 
 -- what the proofs search: of decode; of a code point at a place; of a text from its front
 pub ruleset forms = (one-is, two-is, three-is, four-is, none-is, needs)
 
 pub ruleset places = (byte-past, first-none, first-one, first-is, code-none, code-rest, needs)
 
-pub ruleset fronts = (point-fits, point-less, valid-end, valid-no, valid-go, needs)
+pub ruleset fronts = (point-fits, point-less, end-holds, end-all, end-none, end-go, end-tells, needs)

@@ -35,7 +35,7 @@ after-text (more a b e l s) v =
 
 after-valid : (u v : List ℕ) → true ≡ accepts (utf8 u) → accepts (utf8 (u ++ v)) ≡ accepts (utf8 v)
 unfolding Text
-after-valid u v e = ⊎-elim (λ t. after-text t v) (λ f. absurd (true≢false (e ∙ ap accepts f))) (utf8-cases u)
+after-valid u v e = ⊎-elim (λ t. after-text t v) (λ (k, f). absurd (true≢false (e ∙ ap accepts f))) (utf8-cases u)
 
 -- a part from i to j was a text
 part-passed : (s : List ℕ) (i j : ℕ) → i ≤ j → true ≡ accepts (utf8 (take (j - i) (drop i s))) → accepts (utf8 (drop j s)) ≡ accepts (utf8 (drop i s))

@@ -12,4 +12,4 @@ seen no-point = Not
 
 abbrev pub accepts : Result → Bool
 accepts (ok k) = true
-accepts (err r) = false
+accepts (err r k) = false

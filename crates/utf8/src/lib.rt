@@ -1,4 +1,4 @@
-// UTF-8 (RFC 3629): the code point at a place, and whether a text is UTF-8.
+// UTF-8 (RFC 3629): the code point at a place, whether a text is UTF-8, and where it stops being so.
 mod blocks;
 
 use blocks::cut;
@@ -8,6 +8,7 @@ ghost use mathlib.Core.Bool.{true, false, _||_};
 ghost use Prim.Native.Nat.{_+_, _*_, _%_, _≤_};
 ghost use lib.ListN.{drop, getD, length};
 ghost use Rattle.spec.specs.Reading.Utf8.{two, three, four, decode4, decode1};
+ghost use Rattle.spec.specs.Reading.Readers.{stop-of};
 ghost use Rattle.spec.specs.Reading.Source.{utf8};
 ghost use Rattle.utf8.specs.Seen.{seen, accepts};
 ghost use Rattle.utf8.specs.Window.{due, off};
@@ -121,19 +122,26 @@ pub fn code_point(s: &[u8], at: usize) -> Point
     first_point(&s[at..])
 }
 
-// The text decoded from its front: what decides where the quick tests do not.
-fn decoded(s: &[u8]) -> bool
-    ensures { λ r. ⌜ r ≡ accepts (utf8 (now (s .entry))) ⌝ }
+// The text decoded from its front: where it stops being UTF-8, which is its end if it is UTF-8.
+pub fn text_end(s: &[u8]) -> usize
+    ensures { λ r. ⌜ r ≡ stop-of (utf8 (now (s .entry))) ⌝ }
 {
     let mut i: usize = 0;
     while i < s.len() {
         let p = code_point(s, i);
         let Point::Is(_, n) = p else {
-            return false;
+            return i;
         };
         i += n;
     }
-    true
+    i
+}
+
+// What decides where the quick tests do not.
+fn decoded(s: &[u8]) -> bool
+    ensures { λ r. ⌜ r ≡ accepts (utf8 (now (s .entry))) ⌝ }
+{
+    text_end(s) == s.len()
 }
 
 // Whether a byte is 0x80 or more. No early exit, so that the compiler takes many bytes at once; so in `unfit`.

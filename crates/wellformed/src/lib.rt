@@ -3,6 +3,8 @@ mod calls;
 mod text;
 
 pub use calls::check_attr_value;
+pub use calls::check_attr_value_at;
 pub use calls::check_text;
+pub use calls::check_text_at;
 pub use text::attr_value_number;
 pub use text::text_number;

@@ -4,6 +4,7 @@ use chars::check_char_ref_at;
 use chars::check_suspect_byte;
 use chars::is_special;
 use chars::skip_blocks;
+use chars::tell_reference;
 use error::Answer;
 use error::number;
 use search::at_keyword;
@@ -17,10 +18,11 @@ fn text_step(s: &[u8], i: usize) -> Answer
     ensures { λ r. ⌜ r ≡ read text-step (now (s .entry)) i ⌝ }
 {
     if at_keyword(s, i, b"]]>") {
-        return Answer::No(error::SECTION_END);
+        return Answer::No(error::SECTION_END, i);
     }
     if at_keyword(s, i, b"&#") {
-        return check_char_ref_at(s, i);
+        let r = check_char_ref_at(s, i);
+        return tell_reference(r, i);
     }
     check_suspect_byte(s, i)
 }
@@ -30,15 +32,16 @@ fn attr_step(s: &[u8], i: usize) -> Answer
     ensures { λ r. ⌜ r ≡ read attr-step (now (s .entry)) i ⌝ }
 {
     if at_keyword(s, i, b"<") {
-        return Answer::No(error::LESS_THAN);
+        return Answer::No(error::LESS_THAN, i);
     }
     if at_keyword(s, i, b"&#") {
-        return check_char_ref_at(s, i);
+        let r = check_char_ref_at(s, i);
+        return tell_reference(r, i);
     }
     check_suspect_byte(s, i)
 }
 
-fn walk_text(text: &[u8]) -> Answer
+pub fn walk_text(text: &[u8]) -> Answer
     ensures { λ r. ⌜ r ≡ read check-text (now (text .entry)) 0 ⌝ }
 {
     let mut i: usize = 0;
@@ -64,7 +67,7 @@ fn walk_text(text: &[u8]) -> Answer
     Answer::At(i)
 }
 
-fn walk_attr_value(text: &[u8]) -> Answer
+pub fn walk_attr_value(text: &[u8]) -> Answer
     ensures { λ r. ⌜ r ≡ read check-attr-value (now (text .entry)) 0 ⌝ }
 {
     let mut i: usize = 0;

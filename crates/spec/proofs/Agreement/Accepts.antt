@@ -29,7 +29,7 @@ pub record Decides (test : List ℕ → Bool) (L : Lang) : Type 0 where
 -- 0 is given where the text may be looked at and the rule takes it
 pub zero-ok : (x : Result) → number-of x ≡ 0 → (k : ℕ) × (x ≡ ok k)
 zero-ok (ok k) e = (k, refl)
-zero-ok (err r) e = absurd (let h = number-pos r in omega arith)
+zero-ok (err r j) e = absurd (let h = number-pos r in omega arith)
 
 checked-zero : (rule : Reader) (w : List ℕ) → checked rule w ≡ 0 → Accepted Text w × ((k : ℕ) × (rule w ≡ ok k))
 unfolding checked
@@ -37,7 +37,7 @@ checked-zero rule w e = go (admit w) refl e
   where
     go : (x : Result) → admit w ≡ x → number-of (on-ok x (λ k. rule w)) ≡ 0 → Accepted Text w × ((k : ℕ) × (rule w ≡ ok k))
     go (ok k) f e = (admit-ok w k f, zero-ok (rule w) e)
-    go (err r) f e = absurd (let h = number-pos r in omega arith)
+    go (err r j) f e = absurd (let h = number-pos r in omega arith)
 
 zero-checked : (rule : Reader) (w : List ℕ) (k : ℕ) → Accepted Text w → rule w ≡ ok k → checked rule w ≡ 0
 unfolding checked
@@ -56,7 +56,7 @@ module _ (rule : Reader) (w : List ℕ) (n : ℕ) (e : n ≡ checked nothing w) 
     where
       go : (x : Result) → n ≡ number-of (on-ok x (λ k. ok 0)) → n ≡ number-of (on-ok x (λ k. rule w))
       go (ok k) f = absurd (z f)
-      go (err r) f = f
+      go (err r j) f = f
 
   pub admitted : (m : ℕ) → n ≡ 0 → m ≡ number-of (rule w) → m ≡ checked rule w
   unfolding checked

@@ -10,9 +10,9 @@ use lib.Seq.{drop-append-seam, drop-at}
 use Rattle.spec.specs.Basics.{pick}
 use Rattle.spec.specs.Grammar.Characters.{Text}
 use Rattle.spec.specs.Grammar.Languages.{Lang, _·_, _∣_, inl, inr}
-use Rattle.spec.specs.Reading.Readers.{ok, Reader, _>>_, choose}
+use Rattle.spec.specs.Reading.Readers.{ok, Reader, as-one, _>>_, choose}
 use Rattle.spec.proofs.Agreement.Signs.{kind, Class, Sub, sub-at, _∪_, in-left, in-right}
-use Rattle.spec.proofs.Base.Results.{then-ok, by-reader}
+use Rattle.spec.proofs.Base.Results.{then-ok, by-reader, one-ok, ok-one}
 
 -- what a reader took, and what is left
 pub record Took (L : Lang) (k : ℕ) (w : List ℕ) : Type 0 where
@@ -129,6 +129,14 @@ as-lang i a = record {
   sound = λ w k tw e. took-as (i .to) refl (a .sound w k tw e);
   complete = λ u v m t. a .complete u v (i .from u m) t;
   leads = λ u v m t. a .leads u v (i .from u m) t;
+}
+
+-- the same reader, where only the place of a refusal is another
+pub reads-one : {r : Reader} {L F : Lang} {f : Class} → Reads r L F f → Reads (as-one r) L F f
+reads-one {r} a = record {
+  sound = λ w k tw e. a .sound w k tw (one-ok r w k e);
+  complete = λ u v l t. ok-one r (u ++ v) (length u) (a .complete u v l t);
+  leads = a .leads;
 }
 
 -- a choice by a test

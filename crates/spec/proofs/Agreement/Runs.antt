@@ -114,8 +114,8 @@ at-least-one {r} {L} {F} {g} n f some-L lead a = record { sound = sound-by; comp
   where
     sound-by : (w : List ℕ) (k : ℕ) → Text w → required n r w ≡ ok k → Took (Plus L) k w
     sound-by w k tw e =
-        let (j, f, g) = on-ok-ok (r w) (λ j. pick (eqb j 0) (err n) (ok j)) k e in
-        let (z, h) = unless-refused n (eqb j 0) (ok j) k g in
+        let (j, f, g) = on-ok-ok (r w) (λ j. pick (eqb j 0) (err n 0) (ok j)) k e in
+        let (z, h) = unless-refused n 0 (eqb j 0) (ok j) k g in
         let o : Took (Star L) j w = a .sound w j tw f in
         let l : length (o .taken) ≡ j = o .size in
         let s : j ≡ 0 → ⊥ = eqb-false j 0 z in

@@ -105,13 +105,13 @@ wd s n h = record { sound = sound-by; complete = complete-by; leads = λ u v e t
     is-ascii [] t = absurd t
     is-ascii (b ∷ bs) t = t
 
-    sound-by : (w : List ℕ) (k : ℕ) → Text w → pick (starts (ascii s) w) (ok (length (ascii s))) (err n) ≡ ok k → Took (lit s) k w
+    sound-by : (w : List ℕ) (k : ℕ) → Text w → pick (starts (ascii s) w) (ok (length (ascii s))) (err n 0) ≡ ok k → Took (lit s) k w
     sound-by w k tw e =
-        let (f, m) = else-refused n (starts (ascii s) w) (ok (length (ascii s))) k e in
+        let (f, m) = else-refused n 0 (starts (ascii s) w) (ok (length (ascii s))) k e in
         let (v, g) = starts-split (ascii s) w f in
         record { taken = ascii s; rest = v; split = g; size = ok-inj (length (ascii s)) k m; holds = refl; left = text-rest v (ascii-text (ascii s) (is-ascii (ascii s) h)) (subst Text g tw) }
 
-    complete-by : (u v : List ℕ) → lit s u → Next any v → pick (starts (ascii s) (u ++ v)) (ok (length (ascii s))) (err n) ≡ ok (length u)
+    complete-by : (u v : List ℕ) → lit s u → Next any v → pick (starts (ascii s) (u ++ v)) (ok (length (ascii s))) (err n 0) ≡ ok (length u)
     complete-by u v e t = rw (e, starts-self (ascii s) v)
 
 -- the first place of a word

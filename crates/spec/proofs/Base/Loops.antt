@@ -27,7 +27,7 @@ module _ (t : List ℕ → Bool) (r : Reader) (ends : t [] ≡ false) (s : (x : 
     where
       by-turn : (a : Result) → t w ≡ true → r w ≡ a → ((x : List ℕ) → length x ≤ d → length x ≤ e → while-fuel d t r x ≡ while-fuel e t r x)
           → on-ok a (λ k. past k (while-fuel d t r (drop k w))) ≡ on-ok a (λ k. past k (while-fuel e t r (drop k w)))
-      by-turn (err n) y f ih = refl
+      by-turn (err n i) y f ih = refl
       by-turn (ok k) y f ih =
           let z : 0 < k = s w k y f in
           ap (past k) (ih (drop k w) (omega (arith, length-drop k w)) (omega (arith, length-drop k w)))
@@ -52,10 +52,10 @@ while-stop t r [] e = refl
 while-stop t r (b ∷ w) e = rw e
 
 -- and passes on what a turn refuses
-pub while-refused : (t : List ℕ → Bool) (r : Reader) → t [] ≡ false → (w : List ℕ) (n : Refusal) → t w ≡ true → r w ≡ err n → while t r w ≡ err n
+pub while-refused : (t : List ℕ → Bool) (r : Reader) → t [] ≡ false → (w : List ℕ) (n : Refusal) {j : ℕ} → t w ≡ true → r w ≡ err n j → while t r w ≡ err n j
 unfolding while while-fuel nothing
-while-refused t r ends [] n e f = absurd (true≢false (sym e ∙ ends))
-while-refused t r ends (b ∷ w) n e f = rw (e, f)
+while-refused t r ends [] n {j} e f = absurd (true≢false (sym e ∙ ends))
+while-refused t r ends (b ∷ w) n {j} e f = rw (e, f)
 
 -- to the text's end
 pub through-end : (r : Reader) → throughout r [] ≡ ok 0
@@ -70,7 +70,7 @@ through-turn r s b w k e = while-turn some-left r refl left (b ∷ w) k refl e
     left [] j t f = absurd (true≢false (sym t))
     left (c ∷ x) j t f = s .some c x j f
 
-pub through-refused : (r : Reader) (b : ℕ) (w : List ℕ) (n : Refusal) → r (b ∷ w) ≡ err n → throughout r (b ∷ w) ≡ err n
+pub through-refused : (r : Reader) (b : ℕ) (w : List ℕ) (n : Refusal) {j : ℕ} → r (b ∷ w) ≡ err n j → throughout r (b ∷ w) ≡ err n j
 unfolding throughout some-left
 through-refused r b w n e = while-refused some-left r refl (b ∷ w) n refl e
 
@@ -79,7 +79,7 @@ pub through-some : (r : Reader) → Somes r → (w : List ℕ) (k : ℕ) → 0 <
 through-some r s [] k h e = absurd (let z : 0 < 0 = h in omega arith)
 through-some r s (b ∷ w) k h e = through-turn r s b w k e
 
-pub through-none : (r : Reader) (w : List ℕ) (n : Refusal) → 0 < length w → r w ≡ err n → throughout r w ≡ err n
+pub through-none : (r : Reader) (w : List ℕ) (n : Refusal) {j : ℕ} → 0 < length w → r w ≡ err n j → throughout r w ≡ err n j
 through-none r [] n h e = absurd (let z : 0 < 0 = h in omega arith)
 through-none r (b ∷ w) n h e = through-refused r b w n e
 

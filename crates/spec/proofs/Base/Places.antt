@@ -1,13 +1,13 @@
 -- Bytes and places in a text. Assumes nothing.
 use mathlib.Core.Bool.{Bool, true, false}
 use mathlib.Core.List.{List, [], _∷_}
-use mathlib.Core.Path.{_≡_, sym, _∙_}
+use mathlib.Core.Path.{_≡_, sym, ap, _∙_}
 use Prim.Native.Nat.{ℕ, zero, suc, _+_, _-_, _<_, _≤_}
-use native.Mathlib.Nat.{add-zero}
+use native.Mathlib.Nat.{add-zero, sub-zero, zero-sub, suc-sub-suc}
 use native.Mathlib.Numerals.{add-one}
 use native.Mathlib.Omega.{arith}
 use lib.ListN.{length, getD, take, drop, length-drop, drop-of-length-le, List·getD-eq-default}
-use lib.Seq.{take-all, drop-cons, getD-drop}
+use lib.Seq.{take-all, take-nil, drop-cons, getD-drop}
 use Rattle.spec.specs.Basics.{pick}
 use Rattle.spec.specs.Reading.Readers.{run}
 
@@ -42,6 +42,13 @@ run-within p (b ∷ w) = go (p b) (run-within p w)
     go : (t : Bool) → run p w ≤ length w → pick t (suc (run p w)) 0 ≤ suc (length w)
     go true h = omega arith
     go false h = omega arith
+
+-- a part, as what is left at i of the text up to n
+pub drop-take : (i n : ℕ) (s : List ℕ) → drop i (take n s) ≡ take (n - i) (drop i s)
+drop-take zero n s = rw sub-zero
+drop-take (suc i) zero s = sym (ap (λ (k : ℕ). take k (drop (suc i) s)) (zero-sub (suc i)))
+drop-take (suc i) (suc n) [] = sym (take-nil (suc n - suc i))
+drop-take (suc i) (suc n) (b ∷ s) = drop-take i n s ∙ ap (λ (k : ℕ). take k (drop i s)) (sym (suc-sub-suc n i))
 
 -- the part of a text from i on, as code cuts it
 pub take-rest : (s : List ℕ) (i : ℕ) → take (length s - i) (drop i s) ≡ drop i s

@@ -346,8 +346,8 @@ pub char-point : (p : ℕ → Bool) (n : Refusal) (w : List ℕ) (k : ℕ) → c
 unfolding char
 char-point p n w k = go (decode1 w) refl
   where
-    go : (x : Point) → decode1 w ≡ x → of-point x (λ c k. pick (p c) (ok k) (err n)) (err n) ≡ ok k → (c : ℕ) × (decode1 w ≡ point c k) × (p c ≡ true)
-    go (point c j) e g = let (f, h) = else-refused n (p c) (ok j) k g in (c, cc, f)
+    go : (x : Point) → decode1 w ≡ x → of-point x (λ c k. pick (p c) (ok k) (err n 0)) (err n 0) ≡ ok k → (c : ℕ) × (decode1 w ≡ point c k) × (p c ≡ true)
+    go (point c j) e g = let (f, h) = else-refused n 0 (p c) (ok j) k g in (c, cc, f)
     go no-point e g = absurd (err-ok n k g)
 
 -- its bytes, one or more, stand in the text

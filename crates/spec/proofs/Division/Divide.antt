@@ -30,7 +30,7 @@ module _ (D : Dialect) where
   abbrev pub listed : (Bool → ℕ → List ℕ → List Entry) → Bool → ℕ → List ℕ → Result → List Entry
   listed rest pe place x (ok k) =
       record { kind = kind-at x; first = place; past = place + k } ∷ rest (pe || refers (kind-at x)) (place + k) (drop k x)
-  listed rest pe place x (err n) = []
+  listed rest pe place x (err n j) = []
 
   -- the entries from a place on, where w is left
   unfoldable pub divide : ℕ → Bool → ℕ → List ℕ → List Entry

@@ -26,7 +26,7 @@ unfolding skip-s
 spaces-run s v a t = ok-inj (run space (s ++ v)) (length s) (skip not-space sub-refl .complete s v a (record { it = t }))
 
 module _ (D : Dialect) (A : AsciiNames D) where
-  no-entry : (pe : Bool) (b : List ℕ) → one-entry D pe (93 ∷ b) ≡ err unexpected
+  no-entry : (pe : Bool) (b : List ℕ) → one-entry D pe (93 ∷ b) ≡ err unexpected 0
   unfolding on choose parse-markup-decl starts word-of _>>_
   no-entry pe b = refl
 

@@ -191,7 +191,7 @@ module _ (D : Dialect) (A : AsciiNames D) where
   some-def = some-then require-s _ (record {
     some = λ b w j e.
         let n : ℕ = run space (b ∷ w) in
-        let (f, g) = unless-refused no-space (eqb n 0) (ok n) j e in
+        let (f, g) = unless-refused no-space 0 (eqb n 0) (ok n) j e in
         let z : n ≡ 0 → ⊥ = eqb-false n 0 f in
         let k : n ≡ j = ok-inj n j g in
         omega arith;

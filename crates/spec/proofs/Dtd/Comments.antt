@@ -23,7 +23,7 @@ use Rattle.spec.proofs.Agreement.Reads.{Reads, Next, seq, as-lang}
 use Rattle.spec.proofs.Agreement.Signs.{sub-any}
 use Rattle.spec.proofs.Agreement.UpTo.{up-to-reads}
 use Rattle.spec.proofs.Agreement.Words.{wd, first-of}
-use Rattle.spec.proofs.Base.Results.{unless-refuses}
+use Rattle.spec.proofs.Base.Results.{unless-refuses-at}
 use Rattle.spec.proofs.Base.Tests.{decide, eqb-true, or-false-left, or-false-right}
 use Rattle.spec.proofs.Characters.Bytes.{avoids, class-avoids, avoids-head}
 use Rattle.spec.proofs.Characters.Text.{star-one}
@@ -120,7 +120,7 @@ comment-reads =
     as-lang (cat₂ assoc)
     (seq (wd "<!--" unexpected tt) sub-any
     (up-to-reads "-->" unterminated check-comment Unhyphened 45 (45 ∷ 62 ∷ []) refl tt
-    (λ u v j tu h e. unhyphened false tu (unless-refuses double-hyphen (twice u) nothing u j e .0))
+    (λ u v j tu h e. unhyphened false tu (unless-refuses-at "--" double-hyphen (twice u) nothing u j e .0))
     (λ u x. (0, rw (none u x)))
     (λ u v x. first-close u v (none u x))))
   where

@@ -20,7 +20,7 @@ use Rattle.spec.specs.Reading.Readers.{Result, err, Reader, nothing, ref
 use Rattle.spec.specs.Reading.Refusals.{Refusal, unterminated, too-deep}
 use Rattle.spec.specs.Reading.Wellformed
 use Rattle.spec.proofs.Base.Results.{both-pick}
-use Rattle.spec.proofs.Dtd.DepthAlike.{Alike, met, same, Like, alike-on, alike-test, _then_, like-nothing, like-byte, like-refuse, like-end, like-choose, like-on, like-word, like-while, like-throughout, like-required, like-char, like-up-to}
+use Rattle.spec.proofs.Dtd.DepthAlike.{Alike, met, same, Like, alike-on, alike-test, _then_, like-nothing, like-byte, like-refuse, like-refuse-at, like-one, like-end, like-choose, like-on, like-word, like-while, like-throughout, like-required, like-char, like-up-to}
 
 -- Each tt is a computed test: the refusal at that place is not numbered 20.
 
@@ -40,7 +40,7 @@ module _ {j : ℕ} {y : Refusal} where
 
   pubid : Like j y Dtd.check-pubid Dtd.check-pubid
   unfolding Dtd.check-pubid
-  pubid = record { it = λ w. alike-test (eqb (run pubid-char w) (length w)) 0 _ tt }
+  pubid = record { it = λ w. alike-test (eqb (run pubid-char w) (length w)) 0 _ _ tt }
 
   system : Like j y (Dtd.parse-quoted nothing) (Dtd.parse-quoted nothing)
   system = quoted like-nothing
@@ -55,22 +55,22 @@ module _ {j : ℕ} {y : Refusal} where
   unfolding Wellformed.reference
   reference base d = record {
     it = λ w. both-pick (Alike j y) (eqb (run d w) 0 || not (starts (ascii ";") (drop (run d w) w))) (same refl tt)
-        (alike-test (xml-char (value-on base 0 (take (run d w) w))) (run d w + 1) _ tt);
+        (alike-test (xml-char (value-on base 0 (take (run d w) w))) (run d w + 1) _ _ tt);
   }
 
   references : Like j y Wellformed.check-char-refs Wellformed.check-char-refs
   unfolding Wellformed.check-char-refs Wellformed.ref-or-byte Wellformed.char-ref
   references =
-      like-throughout (like-on "&#" (like-on "&#x" (like-word "&#x" _ tt then reference 16 hex-digit)
-      (like-word "&#" _ tt then reference 10 digit)) like-byte)
+      like-throughout (like-on "&#" (like-on "&#x" (like-one (like-word "&#x" _ tt then reference 16 hex-digit))
+      (like-one (like-word "&#" _ tt then reference 10 digit))) like-byte)
 
   att-value : Like j y Dtd.check-att-value Dtd.check-att-value
   unfolding Dtd.check-att-value
-  att-value = like-choose _ (like-refuse _ tt) references
+  att-value = like-choose _ (like-refuse-at "<" _ tt) references
 
   comment : Like j y Dtd.parse-comment Dtd.parse-comment
   unfolding Dtd.parse-comment Dtd.check-comment
-  comment = like-word "<!--" _ tt then like-up-to "-->" _ tt (like-choose _ (like-refuse _ tt) like-nothing)
+  comment = like-word "<!--" _ tt then like-up-to "-->" _ tt (like-choose _ (like-refuse-at "--" _ tt) like-nothing)
 
   decl-body : (w : List ℕ) → Alike j y (Dtd.take-decl-body w) (Dtd.take-decl-body w)
   unfolding Dtd.take-decl-body
@@ -158,8 +158,8 @@ module _ (D : Dialect) (g j : ℕ) (larger : g ≡ D .groups + j) (y : Refusal) 
     where
       target : (t : List ℕ) → Alike j y (Dtd.check-target low t) (Dtd.check-target high t)
       target t =
-          ((name then like-end _ tt)
-          then record { it = λ _. both-pick (Alike j y) (contains (ascii ":") t) (same refl tt) (both-pick (Alike j y) (Dtd.reserved t) (same refl tt) (same refl tt)) }) .it t
+          alike-on ((name then like-end _ tt) .it t)
+          (λ _. both-pick (Alike j y) (contains (ascii ":") t) (same refl tt) (both-pick (Alike j y) (Dtd.reserved t) (same refl tt) (same refl tt)))
 
   mixed : Like j y (Dtd.parse-mixed low) (Dtd.parse-mixed high)
   unfolding Dtd.parse-mixed
@@ -171,7 +171,7 @@ module _ (D : Dialect) (g j : ℕ) (larger : g ≡ D .groups + j) (y : Refusal) 
   -- one group too many under the limit; and under the larger one, if they are the same
   group : (h i : ℕ) → i ≡ h + j → Like j y (Dtd.parse-group low h) (Dtd.parse-group high i)
   unfolding Dtd.parse-group Dtd.cp-of refuse
-  group zero i e = record { it = λ w. met refl (λ z. let n : 0 ≡ i = omega arith in subst (λ (k : ℕ). Dtd.parse-group high k w ≡ err y) n refl) }
+  group zero i e = record { it = λ w. met 0 refl (λ z. let n : 0 ≡ i = omega arith in subst (λ (k : ℕ). Dtd.parse-group high k w ≡ err y 0) n refl) }
   group (suc h) zero e = absurd (omega arith)
   group (suc h) (suc i) e = group-of (like-on "(" (group h i (omega arith)) name then occurs)
 

@@ -16,7 +16,7 @@ use Rattle.spec.specs.Grammar.Declarations.{PI}
 use Rattle.spec.specs.Grammar.Languages.{Lang, lit, ascii, Ch, _·_, inl, inr, Star, end, Plus, Opt, any, one-of, none-of, _∖_}
 use Rattle.spec.specs.Grammar.Names.{Dialect, Name, NCName, PITarget}
 use Rattle.spec.specs.Reading.Dtd.{reserved, check-target, check-pi, parse-pi}
-use Rattle.spec.specs.Reading.Readers.{ok, err, _>>_, run, contains}
+use Rattle.spec.specs.Reading.Readers.{ok, err, run, contains, before}
 use Rattle.spec.specs.Reading.Refusals.{has-colon, unterminated, unexpected, reserved-target}
 use Rattle.spec.specs.Reading.Wellformed.{check-name}
 use Rattle.spec.proofs.Agreement.Algebra.{cat₂, assoc}
@@ -25,7 +25,7 @@ use Rattle.spec.proofs.Agreement.Runs.{space-ascii, among-ascii}
 use Rattle.spec.proofs.Agreement.Signs.{sub-any}
 use Rattle.spec.proofs.Agreement.UpTo.{up-to-reads}
 use Rattle.spec.proofs.Agreement.Words.{wd, first-of}
-use Rattle.spec.proofs.Base.Results.{then-ok, unless-refused}
+use Rattle.spec.proofs.Base.Results.{on-ok-ok, unless-refused}
 use Rattle.spec.proofs.Base.Tests.{T→true, true→T, no→false, and-left, and-right, each-of, each-at, not-true, leb-true}
 use Rattle.spec.proofs.Characters.Bytes.{avoids, avoids-append, class-avoids, text-front, avoids-all, avoids-each}
 use Rattle.spec.proofs.Characters.Text.{text-rest, ascii-char, star-one, all-ascii, plus-star}
@@ -106,18 +106,18 @@ module _ (D : Dialect) (A : AsciiNames D) where
   target-sound : (t : List ℕ) (j : ℕ) → Text t → check-target D t ≡ ok j → PITarget D t
   unfolding check-target PITarget NCName
   target-sound t j tt′ e =
-      let (i, k, f, g, _) = then-ok (check-name D) (λ _. pick (contains (ascii ":") t) (err has-colon) (pick (reserved t) (err reserved-target) (ok 0))) t j e in
-      let (c, h) = unless-refused has-colon (contains (ascii ":") t) (pick (reserved t) (err reserved-target) (ok 0)) k g in
-      let (r, _) = unless-refused reserved-target (reserved t) (ok 0) k h in
+      let (i, f, g) = on-ok-ok (check-name D t) (λ _. pick (contains (ascii ":") t) (err has-colon (before (ascii ":") t)) (pick (reserved t) (err reserved-target 0) (ok 0))) j e in
+      let (c, h) = unless-refused has-colon (before (ascii ":") t) (contains (ascii ":") t) (pick (reserved t) (err reserved-target 0) (ok 0)) j g in
+      let (r, _) = unless-refused reserved-target 0 (reserved t) (ok 0) j h in
       ((check-name-whole D A .sound t i tt′ f, free-holds ":" 58 [] refl tt t c), λ x. true≢false (sym (xml-reserved t x) ∙ r))
 
   target-complete : (t : List ℕ) → PITarget D t → (j : ℕ) × (check-target D t ≡ ok j)
-  unfolding check-target _>>_ PITarget NCName
+  unfolding check-target PITarget NCName
   target-complete t p =
       let n : check-name D t ≡ ok (length t) = check-name-whole D A .complete t (p .0 .0) in
       let c : contains (58 ∷ []) t ≡ false = no-colon D A t (p .0) in
       let r : reserved t ≡ false = no→false (reserved t) (λ q. p .1 (reserved-xml t (T→true (reserved t) q))) in
-      (length t + 0, rw (n, c, r))
+      (0, rw (n, c, r))
 
   -- the whole instruction
   abbrev pub Inner : Lang

@@ -21,7 +21,7 @@ unfolding _>>_
 then-same r q q' s b w h = go (r (b ∷ w)) refl
   where
     go : (a : Result) → r (b ∷ w) ≡ a → on-ok a (λ k. past k (q (drop k (b ∷ w)))) ≡ on-ok a (λ k. past k (q' (drop k (b ∷ w))))
-    go (err n) f = refl
+    go (err n j) f = refl
     go (ok k) f = let z : 0 < k = s .some b w k f in ap (past k) (h (drop k (b ∷ w)) (omega (arith, length-drop k (b ∷ w))))
 
 module _ (D : Dialect) where

@@ -85,7 +85,7 @@ pubid-ascii =
 pubid-inside : (a : ℕ) (p : ℕ → Bool) → a < 128 → p a ≡ false → ((c : ℕ) → T (p c) → T (pubid-char c)) → ((c : ℕ) → T (pubid-char c) → (c ≡ a → ⊥) → T (p c)) → Inside check-pubid (Star (Ch p)) a
 unfolding check-pubid
 pubid-inside a p l n sub sup = record {
-  sound-in = λ u j tu h e. avoids-class pubid-char p a l sup (whole-run pubid-char pubid-ascii u tu (eqb-true (run pubid-char u) (length u) (else-refused bad-pubid (eqb (run pubid-char u) (length u)) (ok 0) j e .0))) h;
+  sound-in = λ u j tu h e. avoids-class pubid-char p a l sup (whole-run pubid-char pubid-ascii u tu (eqb-true (run pubid-char u) (length u) (else-refused bad-pubid (run pubid-char u) (eqb (run pubid-char u) (length u)) (ok 0) j e .0))) h;
   complete-in = λ u x. (0, rw (eqb-yes (run pubid-char u) (length u) (run-whole pubid-char pubid-ascii (unfold pubid-char in refl) (star-map (λ w c. record { char = c .char; is-scalar = c .is-scalar; in-class = sub (c .char) (c .in-class); bytes = c .bytes }) x))));
   free = λ u x. class-avoids p a l n x;
 }

@@ -14,7 +14,7 @@ use Rattle.spec.specs.Grammar.Languages.{lit, ascii, _·_, _∣_, Opt, o
 use Rattle.spec.specs.Grammar.Literals.{SystemLiteral, PubidLiteral, ExternalID, PublicID}
 use Rattle.spec.specs.Grammar.Names.{Dialect, Name, NCName}
 use Rattle.spec.specs.Reading.Dtd.{require-s, parse-quoted, check-pubid, ncname, second-literal, parse-notation-decl}
-use Rattle.spec.specs.Reading.Readers.{ok, err, _>>_, nothing, starts, on, word, run, contains}
+use Rattle.spec.specs.Reading.Readers.{ok, err, _>>_, nothing, starts, on, word, run, contains, before}
 use Rattle.spec.specs.Reading.Refusals.{has-colon, unexpected, trailing}
 use Rattle.spec.specs.Reading.Wellformed.{name}
 use Rattle.spec.proofs.Agreement.Algebra.{same, _then_, cat₂, either, over-right, none-after, regroup}
@@ -43,8 +43,8 @@ module _ (D : Dialect) (A : AsciiNames D) where
     where
       sound-by : (w : List ℕ) (k : ℕ) → Text w → ncname D w ≡ ok k → Took (NCName D) k w
       sound-by w k tw e =
-          let (j, f, g) = on-ok-ok (name D w) (λ j. pick (contains (ascii ":") (take j w)) (err has-colon) (ok j)) k e in
-          let (c, h) = unless-refused has-colon (contains (ascii ":") (take j w)) (ok j) k g in
+          let (j, f, g) = on-ok-ok (name D w) (λ j. pick (contains (ascii ":") (take j w)) (err has-colon (before (ascii ":") (take j w))) (ok j)) k e in
+          let (c, h) = unless-refused has-colon (before (ascii ":") (take j w)) (contains (ascii ":") (take j w)) (ok j) k g in
           let o : Took (Name D) j w = name-reads D A .sound w j tw f in
           let z : take j w ≡ o .taken = ap (take j) (o .split) ∙ take-at (o .taken) (o .rest) j (o .size) in
           record { taken = o .taken; rest = o .rest; split = o .split; size = o .size ∙ ok-inj j k h; holds = (o .holds, free-holds ":" 58 [] refl tt (o .taken) (ap (contains (ascii ":")) (sym z) ∙ c)); left = o .left }

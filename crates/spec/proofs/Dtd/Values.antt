@@ -18,7 +18,7 @@ use Rattle.spec.specs.Reading.Wellformed.{ref-or-byte, check-char-refs}
 use Rattle.spec.proofs.Agreement.Chars.{ch-some}
 use Rattle.spec.proofs.Agreement.Holds.{contains-avoids, avoids-contains}
 use Rattle.spec.proofs.Agreement.Reads.{Reads, Next}
-use Rattle.spec.proofs.Base.Results.{unless-refuses}
+use Rattle.spec.proofs.Base.Results.{unless-refuses-at}
 use Rattle.spec.proofs.Base.Somes.{some-ref-or-byte}
 use Rattle.spec.proofs.Base.Tests.{within-lo, eqb-no}
 use Rattle.spec.proofs.Characters.Bytes.{avoids, avoids-parted, avoids-char, not-one}
@@ -103,7 +103,7 @@ att-inside : (a : ℕ) (p : ℕ → Bool) → Foreign a → p a ≡ false → p 
 unfolding check-att-value choose
 att-inside a p f n m in-p = record {
   sound-in = λ u j tu h e.
-      let (f, g) = unless-refuses less-than (less u) check-char-refs u j e in
+      let (f, g) = unless-refuses-at "<" less-than (less u) check-char-refs u j e in
       refs-sound p Q rest classed u j tu (h, contains-avoids 60 u f) g;
   complete-in = λ u r. (length u, rw (avoids-contains 60 [] u (ref-avoids p 60 less-foreign m u r)) (refs-complete p Q rest classed u r (ref-avoids p a f n u r, ref-avoids p 60 less-foreign m u r)));
   free = ref-avoids p a f n;

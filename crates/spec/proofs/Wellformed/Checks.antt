@@ -58,7 +58,7 @@ chars-sound {w} k (more x y f c s) e = go (legal-byte (x ++ y)) refl (λ j. char
     size = let z = ch-some x c in omega (arith, length-append x y)
 
     go : (a : Result) → legal-byte (x ++ y) ≡ a → ((j : ℕ) → throughout legal-byte y ≡ ok j → Star (Ch xml-char) y) → Star (Ch xml-char) w
-    go (err n) g ih = absurd (err-ok n k (sym (through-none legal-byte (x ++ y) n size g) ∙ ap (throughout legal-byte) (sym f) ∙ e))
+    go (err n j) g ih = absurd (err-ok n k (sym (through-none legal-byte (x ++ y) n size g) ∙ ap (throughout legal-byte) (sym f) ∙ e))
     go (ok j) g ih =
         let i = reclass c (legal-char x y j c g) in
         let (m, r, _) = past-ok (length x) k (throughout legal-byte y) (sym (over-char legal-byte some-legal legal-tail x y i (legal-takes x y i)) ∙ ap (throughout legal-byte) (sym f) ∙ e) in

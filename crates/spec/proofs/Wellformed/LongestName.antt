@@ -29,7 +29,7 @@ pub record Takes (L : Lang) (w : List ℕ) (k : ℕ) : Type 0 where
 -- a character of the class stands first, or none does
 data Front (p : ℕ → Bool) (n : Refusal) (w : List ℕ) : Type 0 where
   stands : (c k : ℕ) → decode1 w ≡ point c k → p c ≡ true → Front p n w
-  absent : begins p w ≡ false → char p n w ≡ err n → Front p n w
+  absent : begins p w ≡ false → char p n w ≡ err n 0 → Front p n w
 
 -- one character
 module _ (p : ℕ → Bool) (n : Refusal) where
@@ -50,11 +50,11 @@ module _ (p : ℕ → Bool) (n : Refusal) where
     unfolding char
     char-is c k d e = rw (d, e)
 
-    pub char-not : (c k : ℕ) → decode1 w ≡ point c k → p c ≡ false → char p n w ≡ err n
+    pub char-not : (c k : ℕ) → decode1 w ≡ point c k → p c ≡ false → char p n w ≡ err n 0
     unfolding char
     char-not c k d e = rw (d, e)
 
-    pub char-none : decode1 w ≡ no-point → char p n w ≡ err n
+    pub char-none : decode1 w ≡ no-point → char p n w ≡ err n 0
     unfolding char
     char-none d = rw d
 
@@ -62,7 +62,7 @@ module _ (p : ℕ → Bool) (n : Refusal) where
     unfolding begins
     begins-ok k e = let (c, d, f) = char-point p n w k e in rw d f
 
-    begins-err : char p n w ≡ err n → begins p w ≡ false
+    begins-err : char p n w ≡ err n 0 → begins p w ≡ false
     begins-err e = go front
       where
         go : Front p n w → begins p w ≡ false
@@ -100,7 +100,7 @@ module _ (p : ℕ → Bool) (n : Refusal) where
       leads : char p n w ≡ ok (length (h .left))
       leads = ap (char p n) regroup ∙ char-takes (h .left) (h .right ++ v) (h .first)
 
-    first-none : char p n w ≡ err n → (u v : List ℕ) → w ≡ u ++ v → (Ch p · L) u → ⊥
+    first-none : char p n w ≡ err n 0 → (u v : List ℕ) → w ≡ u ++ v → (Ch p · L) u → ⊥
     first-none e u v f h = err-ok n (length (h .left)) (sym e ∙ leads u v f h)
 
     first-takes : (k j : ℕ) → char p n w ≡ ok k → Takes L (drop k w) j → Takes (Ch p · L) w (k + j)
@@ -128,7 +128,7 @@ star-longest L w k f u v e (end g) = let l = ap length g in omega arith
 star-longest L w k f u v e (more a b g h s) = f u v e (record { left = a; right = b; split = g; first = h; second = s })
 
 module _ (p : ℕ → Bool) (n : Refusal) where
-  pub chars-stop : (w : List ℕ) → char p n w ≡ err n → chars p n w ≡ ok 0
+  pub chars-stop : (w : List ℕ) → char p n w ≡ err n 0 → chars p n w ≡ ok 0
   chars-stop w e = while-stop (begins p) (char p n) w (begins-err p n w e)
 
   begins-end : begins p [] ≡ false
@@ -184,7 +184,7 @@ module _ (p : ℕ → Bool) (n : Refusal) where
 -- a name stands first, or none does
 pub data Named (D : Dialect) (w : List ℕ) : Type 0 where
   a-name : (k : ℕ) → 0 < k → name D w ≡ ok k → Takes (Name D) w k → Named D w
-  no-name : name D w ≡ err bad-name → ((u v : List ℕ) → w ≡ u ++ v → Name D u → ⊥) → Named D w
+  no-name : name D w ≡ err bad-name 0 → ((u v : List ℕ) → w ≡ u ++ v → Name D u → ⊥) → Named D w
 
 module _ (D : Dialect) (w : List ℕ) where
   -- [7] Nmtoken's loop is never refused, and takes the longest
@@ -201,7 +201,7 @@ module _ (D : Dialect) (w : List ℕ) where
   unfolding name _>>_
   name-first k e = rw e
 
-  pub name-none : char (D .start) bad-name w ≡ err bad-name → name D w ≡ err bad-name
+  pub name-none : char (D .start) bad-name w ≡ err bad-name 0 → name D w ≡ err bad-name 0
   unfolding name _>>_
   name-none e = rw e
 

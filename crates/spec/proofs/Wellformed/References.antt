@@ -14,12 +14,12 @@ use Rattle.spec.specs.Basics.{pick, within}
 use Rattle.spec.specs.Grammar.Characters.{Text, xml-char}
 use Rattle.spec.specs.Grammar.Languages.{Lang, lit, ascii, Ch, _·_, inl, inr, Star, end, more, Plus, any, _∖_, _&_}
 use Rattle.spec.specs.Grammar.References.{digit, hex-digit, denotes-char, value-on, CharRef, Unreferring, Referring}
-use Rattle.spec.specs.Reading.Readers.{ok, err, _>>_, starts, on, word, run}
+use Rattle.spec.specs.Reading.Readers.{ok, err, _>>_, starts, on, word, run, as-one}
 use Rattle.spec.specs.Reading.Refusals.{bad-reference, illegal-reference}
 use Rattle.spec.specs.Reading.Wellformed.{reference, char-ref}
 use Rattle.spec.proofs.Agreement.Algebra.{swap}
 use Rattle.spec.proofs.Agreement.Chars.{kind-encode, ch-some}
-use Rattle.spec.proofs.Agreement.Reads.{Took, Reads, Next, Leads, seq, alt, weaken, as-lang, drop-took}
+use Rattle.spec.proofs.Agreement.Reads.{Took, Reads, Next, Leads, seq, alt, weaken, as-lang, reads-one, drop-took}
 use Rattle.spec.proofs.Agreement.Runs.{run-took, run-complete, ascii-lead, star-plus, Small, small-or, small-within}
 use Rattle.spec.proofs.Agreement.Signs.{kind, Sub, by-signs, sub-any}
 use Rattle.spec.proofs.Agreement.Words.{wd, first-of, starts-self, starts-clash, starts-split, starts-lit}
@@ -44,8 +44,8 @@ module _ (base : ℕ) (d : ℕ → Bool) (small : Small d) (closes : Sub (first-
       let n : ℕ = run d w in
       let value : ℕ = value-on base 0 (take n w) in
       let ended : Bool = starts (ascii ";") (drop n w) in
-      let (f, g) = unless-refused bad-reference (eqb n 0 || not ended) (pick (xml-char value) (ok (n + 1)) (err illegal-reference)) k e in
-      let (c, m) = else-refused illegal-reference (xml-char value) (ok (n + 1)) k g in
+      let (f, g) = unless-refused bad-reference 0 (eqb n 0 || not ended) (pick (xml-char value) (ok (n + 1)) (err illegal-reference 0)) k e in
+      let (c, m) = else-refused illegal-reference 0 (xml-char value) (ok (n + 1)) k g in
       let o : Took (Star (Ch d)) n w = run-took d small w tw in
       let (v, h) = starts-split (ascii ";") (o .rest) (ap (starts (ascii ";")) (sym (drop-took o)) ∙ not-false ended (or-false-right (eqb n 0) (not ended) f)) in
       let z : take n w ≡ o .taken = ap (take n) (o .split) ∙ take-at (o .taken) (o .rest) n (o .size) in
@@ -93,10 +93,10 @@ pub char-ref-reads : Reads char-ref CharRef (Next any) (first-of "&")
 unfolding char-ref CharRef on
 char-ref-reads =
     weaken sub-any (by-signs tt)
-    (as-lang swap (alt (starts (ascii "&#x")) (λ u v l t. starts-lit "&#x" v l) no-x (seq (wd "&#x" bad-reference tt) sub-any (reference-reads 16 hex-digit hex-ascii (by-signs tt))) decimal))
+    (as-lang swap (alt (starts (ascii "&#x")) (λ u v l t. starts-lit "&#x" v l) no-x (reads-one (seq (wd "&#x" bad-reference tt) sub-any (reference-reads 16 hex-digit hex-ascii (by-signs tt)))) decimal))
   where
-    decimal : Reads (word "&#" bad-reference >> reference 10 digit) (lit "&#" · (Plus (Ch digit) & denotes-char 10) · lit ";") (Next any) (first-of "&")
-    decimal = seq (wd "&#" bad-reference tt) sub-any (reference-reads 10 digit digit-ascii (by-signs tt))
+    decimal : Reads (as-one (word "&#" bad-reference >> reference 10 digit)) (lit "&#" · (Plus (Ch digit) & denotes-char 10) · lit ";") (Next any) (first-of "&")
+    decimal = reads-one (seq (wd "&#" bad-reference tt) sub-any (reference-reads 10 digit digit-ascii (by-signs tt)))
 
     no-x : (u v : List ℕ) → (lit "&#" · (Plus (Ch digit) & denotes-char 10) · lit ";") u → Next any v → starts (ascii "&#x") (u ++ v) ≡ false
     no-x u v l t =

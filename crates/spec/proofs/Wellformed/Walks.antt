@@ -35,7 +35,7 @@ module _ (S : Reader) (some : Somes S) (at-tail : (b : ℕ) (w : List ℕ) → t
     where
       go : (a : Result) → a ≡ past 0 a
       go (ok k) = ap ok (let e : k ≡ 0 + k = omega arith in e)
-      go (err n) = refl
+      go (err n j) = ap (err n) (let e : j ≡ 0 + j = omega arith in e)
   over-tails (b ∷ x) v h =
       through-some S (some) (b ∷ (x ++ v)) 1 (omega arith) (at-tail b (x ++ v) (and-left (tail b) (all-tails x) h))
       ∙ ap (past 1) (over-tails x v (and-right (tail b) (all-tails x) h))
@@ -86,7 +86,7 @@ module _ {S : Reader} {p : ℕ → Bool} {Q B : List ℕ → Type 0} (st : Step 
       rest-of z j g = let (m, f, _) = past-ok j k (throughout S z) (sym g ∙ e) in (m, f)
 
       by-ref : ((z : List ℕ) (m : ℕ) → length z ≤ d → Text z → Q z → throughout S z ≡ ok m → Walked p B z) → starts ref-open w ≡ true → (a : Result) → char-ref w ≡ a → Walked p B w
-      by-ref ih a (err n) g = absurd (err-ok n k (sym (through-none S w n (let l = size in let z = some-x in omega arith) (st .at-ref w a ∙ g)) ∙ e))
+      by-ref ih a (err n j) g = absurd (err-ok n k (sym (through-none S w n (let l = size in let z = some-x in omega arith) (st .at-ref w a ∙ g)) ∙ e))
       by-ref ih a (ok j) g =
           let t : Took CharRef j w = char-ref-reads .sound w j (more x y f c s) g in
           let l = size in
@@ -98,7 +98,7 @@ module _ {S : Reader} {p : ℕ → Bool} {Q B : List ℕ → Type 0} (st : Step 
           ref (t .taken) (t .rest) (t .split) (t .holds) (ih (t .rest) m (omega arith) (t .left) (st .rest (t .taken) (t .rest) (subst Q (t .split) q)) r)
 
       by-char : ((z : List ℕ) (m : ℕ) → length z ≤ d → Text z → Q z → throughout S z ≡ ok m → Walked p B z) → starts ref-open w ≡ false → (a : Result) → S w ≡ a → Walked p B w
-      by-char ih n (err m) g = absurd (err-ok m k (sym (through-none S w m (let l = size in let z = some-x in omega arith) g) ∙ e))
+      by-char ih n (err m j) g = absurd (err-ok m k (sym (through-none S w m (let l = size in let z = some-x in omega arith) g) ∙ e))
       by-char ih n (ok j) g =
           let o : starts ref-open (x ++ y) ≡ false = ap (starts ref-open) (sym f) ∙ n in
           let (i, b) = st .legal x y j c o (subst Q f q) (ap S (sym f) ∙ g) in

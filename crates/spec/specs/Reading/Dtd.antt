@@ -12,7 +12,7 @@ use Rattle.spec.specs.Grammar.Literals.{pubid-char}
 use Rattle.spec.specs.Grammar.Names.{Dialect}
 use Rattle.spec.specs.Reading.Refusals.{Refusal, no-space, bad-name, has-colon, no-literal, unterminated, unexpected, trailing, bad-pubid, reserved-target, double-hyphen, bad-connector, less-than}
 use Rattle.spec.specs.Reading.Places.{Place, at, nowhere, outside}
-use Rattle.spec.specs.Reading.Readers.{Result, ok, err, Reader, on-ok, _>>_, nothing, refuse, at-end, starts, choose, on, word, run, while, required, begins, char, contains, up-to}
+use Rattle.spec.specs.Reading.Readers.{Result, ok, err, Reader, on-ok, _>>_, nothing, refuse, at-end, starts, choose, on, word, run, while, required, begins, char, contains, before, refuse-at, up-to}
 use Rattle.spec.specs.Reading.Wellformed.{check-char-refs, parts, name, check-name}
 
 -- skip_s, require_s
@@ -29,7 +29,7 @@ parse-quoted check =
 
 -- check_pubid
 unfoldable pub check-pubid : List ℕ → Result
-check-pubid w = pick (eqb (run pubid-char w) (length w)) (ok 0) (err bad-pubid)
+check-pubid w = pick (eqb (run pubid-char w) (length w)) (ok 0) (err bad-pubid (run pubid-char w))
 
 -- parse_external_id
 unfoldable pub parse-external-id : Reader
@@ -39,11 +39,11 @@ parse-external-id =
 
 -- parse_att_value, what it does with the text between the quotes
 unfoldable pub check-att-value : List ℕ → Result
-check-att-value = choose (contains (ascii "<")) (refuse less-than) check-char-refs
+check-att-value = choose (contains (ascii "<")) (refuse-at "<" less-than) check-char-refs
 
 -- parse_comment
 unfoldable pub check-comment : List ℕ → Result
-check-comment = choose (contains (ascii "--")) (refuse double-hyphen) nothing
+check-comment = choose (contains (ascii "--")) (refuse-at "--" double-hyphen) nothing
 
 unfoldable pub parse-comment : Reader
 parse-comment = word "<!--" unexpected >> up-to "-->" unterminated check-comment
@@ -51,7 +51,7 @@ parse-comment = word "<!--" unexpected >> up-to "-->" unterminated check-comment
 -- as many bytes as stand before a place, or refusal n where there is none
 abbrev pub bytes-before : Refusal → Place → Result
 bytes-before n (at k) = ok k
-bytes-before n nowhere = err n
+bytes-before n nowhere = err n 0
 
 -- take_decl_body: the bytes before the first '>' outside quotes
 unfoldable pub take-decl-body : Reader
@@ -123,7 +123,7 @@ module _ (D : Dialect) where
 
   -- parse_name and reject_colon
   unfoldable pub ncname : Reader
-  ncname w = on-ok (name D w) (λ k. pick (contains (ascii ":") (take k w)) (err has-colon) (ok k))
+  ncname w = on-ok (name D w) (λ k. pick (contains (ascii ":") (take k w)) (err has-colon (before (ascii ":") (take k w))) (ok k))
 
   -- parse_pe_reference
   unfoldable pub parse-pe-reference : Reader
@@ -136,7 +136,7 @@ module _ (D : Dialect) where
 
   -- parse_pi: the target is what stands before the first white space
   unfoldable pub check-target : List ℕ → Result
-  check-target t = (check-name D >> λ _. pick (contains (ascii ":") t) (err has-colon) (pick (reserved t) (err reserved-target) (ok 0))) t
+  check-target t = on-ok (check-name D t) (λ _. pick (contains (ascii ":") t) (err has-colon (before (ascii ":") t)) (pick (reserved t) (err reserved-target 0) (ok 0)))
 
   unfoldable pub check-pi : List ℕ → Result
   check-pi w = check-target (take (run (none-of " \t\r\n") w) w)
@@ -227,7 +227,7 @@ module _ (D : Dialect) where
 
   -- parse_internal_subset; each turn takes a byte or more, so the fuel lasts
   unfoldable pub subset-fuel : ℕ → Bool → Reader
-  subset-fuel zero pe-used w = err unterminated
+  subset-fuel zero pe-used w = err unterminated 0
   subset-fuel (suc d) pe-used w =
       (skip-s
       >> on "]" (word "]" unexpected)

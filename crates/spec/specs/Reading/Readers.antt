@@ -1,4 +1,5 @@
--- Readers: from the bytes that are left to how many of them are taken, or to a refusal. Total on all bytes. Assumes nothing.
+-- Readers: from the bytes that are left to how many of them are taken, or to a refusal and the place where it is met. Total on all
+-- bytes. Assumes nothing.
 use mathlib.Core.Bool.{Bool, true, false, _&&_, _||_}
 use mathlib.Core.List.{List, [], _∷_}
 use Prim.Native.Nat.{ℕ, zero, suc, _+_}
@@ -10,9 +11,10 @@ use Rattle.spec.specs.Grammar.Languages.{ascii}
 use Rattle.spec.specs.Reading.Refusals.{Refusal, number}
 use Rattle.spec.specs.Reading.Utf8.{Point, point, no-point, decode1}
 
+-- how many bytes are taken; or the refusal, and how many of the bytes that are left stand before the place where it is met
 pub data Result : Type 0 where
   ok : ℕ → Result
-  err : Refusal → Result
+  err : Refusal → ℕ → Result
 
 abbrev pub Reader : Type 0
 Reader = List ℕ → Result
@@ -20,21 +22,26 @@ Reader = List ℕ → Result
 -- the number of an answer in document 01's table, and how many bytes it took
 abbrev pub number-of : Result → ℕ
 number-of (ok k) = 0
-number-of (err r) = number r
+number-of (err r j) = number r
 
 abbrev pub taken : Result → ℕ
 taken (ok k) = k
-taken (err r) = 0
+taken (err r j) = 0
+
+-- where reading stops: how many bytes stand before the end of what is taken, or before the place of the refusal
+abbrev pub stop-of : Result → ℕ
+stop-of (ok k) = k
+stop-of (err r j) = j
 
 -- go on with what was taken, or pass the refusal up
 abbrev pub on-ok : Result → (ℕ → Result) → Result
 on-ok (ok k) f = f k
-on-ok (err r) f = err r
+on-ok (err r j) f = err r j
 
 -- k bytes were taken before
 abbrev pub past : ℕ → Result → Result
 past k (ok j) = ok (k + j)
-past k (err r) = err r
+past k (err r j) = err r (k + j)
 
 -- one after the other
 infixr 60 _>>_
@@ -45,12 +52,12 @@ unfoldable pub nothing : Reader
 nothing w = ok 0
 
 unfoldable pub refuse : Refusal → Reader
-refuse n w = err n
+refuse n w = err n 0
 
 -- the text's end, or refusal n
 unfoldable pub at-end : Refusal → Reader
 at-end n [] = ok 0
-at-end n (b ∷ bs) = err n
+at-end n (b ∷ bs) = err n 0
 
 -- the text begins with these bytes
 unfoldable pub starts : List ℕ → List ℕ → Bool
@@ -68,7 +75,7 @@ on s = choose (starts (ascii s))
 
 -- these bytes, or refusal n; a word's bytes
 unfoldable pub word-of : List ℕ → Refusal → Reader
-word-of p n w = pick (starts p w) (ok (length p)) (err n)
+word-of p n w = pick (starts p w) (ok (length p)) (err n 0)
 
 abbrev pub word : String → Refusal → Reader
 word s n = word-of (ascii s) n
@@ -96,7 +103,7 @@ throughout r = while some-left r
 
 -- what r takes, at least a byte, or refusal n
 unfoldable pub required : Refusal → Reader → Reader
-required n r w = on-ok (r w) (λ k. pick (eqb k 0) (err n) (ok k))
+required n r w = on-ok (r w) (λ k. pick (eqb k 0) (err n 0) (ok k))
 
 -- the next byte
 unfoldable pub a-byte : Reader
@@ -112,7 +119,7 @@ unfoldable pub begins : (ℕ → Bool) → List ℕ → Bool
 begins p w = of-point (decode1 w) (λ c k. p c) false
 
 unfoldable pub char : (ℕ → Bool) → Refusal → Reader
-char p n w = of-point (decode1 w) (λ c k. pick (p c) (ok k) (err n)) (err n)
+char p n w = of-point (decode1 w) (λ c k. pick (p c) (ok k) (err n 0)) (err n 0)
 
 -- whether and where these bytes first stand in the text: how many bytes stand before them
 unfoldable pub contains : List ℕ → List ℕ → Bool
@@ -122,6 +129,18 @@ contains p (b ∷ bs) = starts p (b ∷ bs) || contains p bs
 unfoldable pub before : List ℕ → List ℕ → ℕ
 before p [] = 0
 before p (b ∷ bs) = pick (starts p (b ∷ bs)) 0 (suc (before p bs))
+
+-- r as one sign: what is refused in it is refused where it begins
+abbrev pub at-front : Result → Result
+at-front (ok k) = ok k
+at-front (err r j) = err r 0
+
+unfoldable pub as-one : Reader → Reader
+as-one r w = at-front (r w)
+
+-- refusal n where the word first stands
+unfoldable pub refuse-at : String → Refusal → Reader
+refuse-at s n w = err n (before (ascii s) w)
 
 -- everything up to the first place of the word, and the word too, if the check takes what stands before it;
 -- refusal n if the word is nowhere

@@ -6,7 +6,7 @@ use lib.ListN.{length}
 use Rattle.spec.specs.Basics.{pick}
 use Rattle.spec.specs.Grammar.Languages.{any}
 use Rattle.spec.specs.Reading.Refusals.{too-long, not-utf8}
-use Rattle.spec.specs.Reading.Readers.{err, Reader, number-of, on-ok, char, throughout}
+use Rattle.spec.specs.Reading.Readers.{err, Reader, number-of, stop-of, on-ok, char, throughout}
 
 -- code points from the first byte to the last
 unfoldable pub utf8 : Reader
@@ -18,8 +18,15 @@ limit = 1_048_576
 
 -- 1 before 2
 unfoldable pub admit : Reader
-admit w = pick (ltb limit (length w)) (err too-long) (utf8 w)
+admit w = pick (ltb limit (length w)) (err too-long 0) (utf8 w)
 
--- 2 before the rest: the number that a public call gives
+-- 2 before the rest
+abbrev pub admitted : Reader → Reader
+admitted rule w = on-ok (admit w) (λ k. rule w)
+
+-- the number that a public call gives, and the place where it stops
 unfoldable pub checked : Reader → List ℕ → ℕ
-checked rule w = number-of (on-ok (admit w) (λ k. rule w))
+checked rule w = number-of (admitted rule w)
+
+unfoldable pub checked-at : Reader → List ℕ → ℕ
+checked-at rule w = stop-of (admitted rule w)

@@ -10,7 +10,7 @@ use Rattle.spec.specs.Grammar.Characters.{xml-char}
 use Rattle.spec.specs.Grammar.References.{digit, hex-digit, value-on}
 use Rattle.spec.specs.Grammar.Names.{Dialect}
 use Rattle.spec.specs.Reading.Refusals.{bad-name, less-than, bad-reference, illegal-reference, illegal-char, section-end}
-use Rattle.spec.specs.Reading.Readers.{ok, err, Reader, taken, _>>_, refuse, at-end, starts, choose, on, word, run, while, throughout, a-byte, begins, char}
+use Rattle.spec.specs.Reading.Readers.{ok, err, Reader, taken, _>>_, refuse, at-end, starts, choose, on, word, run, while, throughout, a-byte, begins, char, as-one}
 
 -- CHAR_SUSPECT, check_suspect_byte: a control but tab, line feed and carriage return, or the bytes of U+FFFE or U+FFFF
 unfoldable pub illegal-here : List ℕ → Bool
@@ -28,11 +28,12 @@ check-chars = throughout legal-byte
 -- check_char_ref_at: digits of a base, at least one, and ";", where the digits' value is a Char
 unfoldable pub reference : ℕ → (ℕ → Bool) → Reader
 reference base d w =
-    pick (eqb (run d w) 0 || not (starts (ascii ";") (drop (run d w) w))) (err bad-reference)
-    (pick (xml-char (value-on base 0 (take (run d w) w))) (ok (run d w + 1)) (err illegal-reference))
+    pick (eqb (run d w) 0 || not (starts (ascii ";") (drop (run d w) w))) (err bad-reference 0)
+    (pick (xml-char (value-on base 0 (take (run d w) w))) (ok (run d w + 1)) (err illegal-reference 0))
 
+-- after its opening sign; a bad reference is refused where it begins
 unfoldable pub char-ref : Reader
-char-ref = on "&#x" (word "&#x" bad-reference >> reference 16 hex-digit) (word "&#" bad-reference >> reference 10 digit)
+char-ref = on "&#x" (as-one (word "&#x" bad-reference >> reference 16 hex-digit)) (as-one (word "&#" bad-reference >> reference 10 digit))
 
 -- check_char_refs
 unfoldable pub ref-or-byte : Reader

@@ -1,12 +1,10 @@
 -- `chars::references::check_char_ref_at` meets its contract.
 -- Assumes nothing.
-use Rattle.spec.specs.Reading.Wellformed.{char-ref}
 use Rattle.chars.proofs.CharRefs.{char-refs}
 use Rattle.chars.proofs.references.check_char_ref_at.Statement.{statement}
 use Rattle.chars.proofs.references.check_char_ref_at.Tie as tie
 
 pub check-char-ref-at-spec : {M : Type 1} → statement M
-unfolding char-ref
 check-char-ref-at-spec =
     tie.close
     (tie.spec

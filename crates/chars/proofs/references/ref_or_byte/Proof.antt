@@ -13,6 +13,7 @@ ref-or-byte-spec =
     (λ c. search char-refs)  -- slice-aggregate-at-keyword
     (λ c κs. search char-refs)  -- at-keyword-requires
     (λ c κs. search char-refs)  -- check-char-ref-at-requires
+    (λ c κs. search char-refs)  -- tell-reference-requires
     (λ c. search char-refs)  -- returns
     (λ c κs. search char-refs)  -- next-byte-requires
     (λ c. search char-refs))  -- returns-2

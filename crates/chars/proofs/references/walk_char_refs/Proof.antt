@@ -11,10 +11,10 @@ use Rattle.chars.proofs.references.walk_char_refs.Statement.{statement}
 use Rattle.chars.proofs.references.walk_char_refs.Tie as tie
 
 abbrev Inv-loop : tie.InvT-loop
-Inv-loop text i₀ calm₀ i calm = read (throughout ref-or-byte) text i ≡ read check-char-refs text 0
+Inv-loop text at i₀ calm₀ i calm = read (throughout ref-or-byte) text i ≡ read check-char-refs text at
 
 abbrev μ-loop : tie.MeasureT-loop
-μ-loop text i₀ calm₀ i calm = length text - i
+μ-loop text at i₀ calm₀ i calm = length text - i
 
 pub walk-char-refs-spec : {M : Type 1} → statement M
 walk-char-refs-spec =

@@ -8,10 +8,10 @@ use Rattle.command.proofs.report.visible.Statement.{statement}
 use Rattle.command.proofs.report.visible.Tie as tie
 
 abbrev Inv-loop : tie.InvT-loop
-Inv-loop out₀ at entry n₀ i₀ out n i = length out ≡ length out₀
+Inv-loop out₀ at entry blank n₀ i₀ out n i = length out ≡ length out₀
 
 abbrev μ-loop : tie.MeasureT-loop
-μ-loop out₀ at entry n₀ i₀ out n i = length entry - i
+μ-loop out₀ at entry blank n₀ i₀ out n i = length entry - i
 
 pub visible-spec : {M : Type 1} → statement M
 visible-spec =

@@ -7,7 +7,9 @@ pub check-att-value-spec : {M : Type 1} → statement M
 check-att-value-spec =
     tie.close
     (tie.spec
-    (λ c κs. search checking)  -- has-byte-requires
+    (λ c κs. search checking)  -- find-byte-requires
+    (λ c. search checking)  -- enum-known-r
+    (λ c. search checking)  -- enum-told
+    (λ c κs. search checking)  -- walk-char-refs-requires
     (λ c. search checking)  -- returns
-    (λ c κs. search checking)  -- char-refs-number-requires
     (λ c. search checking))  -- returns-2

@@ -1,7 +1,7 @@
--- `cursor::literals::check_pubid` meets its contract. The invariant: the PubidChars from i on end where those from the
--- start on do, and i lies within the text. Assumes nothing.
+-- `cursor::literals::check_pubid` meets its contract. The invariant: the PubidChars from i on end where those from `at` on do.
+-- Assumes nothing.
 use mathlib.Core.Path.{_≡_}
-use Prim.Native.Nat.{_+_, _-_, _≤_}
+use Prim.Native.Nat.{_+_, _-_}
 use lib.ListN.{length, drop}
 use Rattle.spec.specs.Grammar.Literals.{pubid-char}
 use Rattle.spec.specs.Reading.Readers.{run}
@@ -10,10 +10,10 @@ use Rattle.cursor.proofs.literals.check_pubid.Statement.{statement}
 use Rattle.cursor.proofs.literals.check_pubid.Tie as tie
 
 abbrev Inv-loop : tie.InvT-loop
-Inv-loop t i₀ i = (i + run pubid-char (drop i t) ≡ 0 + run pubid-char (drop 0 t)) × (i ≤ length t)
+Inv-loop t at i₀ i = i + run pubid-char (drop i t) ≡ at + run pubid-char (drop at t)
 
 abbrev μ-loop : tie.MeasureT-loop
-μ-loop t i₀ i = length t - i
+μ-loop t at i₀ i = length t - i
 
 pub check-pubid-spec : {M : Type 1} → statement M
 check-pubid-spec =

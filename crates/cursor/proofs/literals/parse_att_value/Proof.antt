@@ -11,11 +11,13 @@ parse-att-value-spec =
     (λ c. search texts)  -- enum-known-r
     (λ c. search texts)  -- enum-told
     (λ c. search texts)  -- returns
-    (λ c. search texts)  -- add-check-att-value
     (λ c. search texts)  -- sub-check-att-value
     (λ c. search texts)  -- sub-check-att-value-2
     (λ c. search texts)  -- part-check-att-value-start
     (λ c. search texts)  -- part-check-att-value-end
+    (λ c. search texts)  -- add-check-att-value
     (λ c κs. search texts)  -- check-att-value-requires
+    (λ c. search texts)  -- enum-told-2
+    (λ c. search texts)  -- enum-told-3
     (λ c. search texts)  -- returns-2
     (λ c. search texts))  -- returns-3

@@ -11,11 +11,13 @@ parse-entity-value-spec =
     (λ c. search texts)  -- enum-known-r
     (λ c. search texts)  -- enum-told
     (λ c. search texts)  -- returns
-    (λ c. search texts)  -- add-char-refs-number
-    (λ c. search texts)  -- sub-char-refs-number
-    (λ c. search texts)  -- sub-char-refs-number-2
-    (λ c. search texts)  -- part-char-refs-number-start
-    (λ c. search texts)  -- part-char-refs-number-end
-    (λ c κs. search texts)  -- char-refs-number-requires
+    (λ c. search texts)  -- sub-walk-char-refs
+    (λ c. search texts)  -- sub-walk-char-refs-2
+    (λ c. search texts)  -- part-walk-char-refs-start
+    (λ c. search texts)  -- part-walk-char-refs-end
+    (λ c. search texts)  -- add-walk-char-refs
+    (λ c κs. search texts)  -- walk-char-refs-requires
+    (λ c. search texts)  -- enum-told-2
+    (λ c. search texts)  -- enum-told-3
     (λ c. search texts)  -- returns-2
     (λ c. search texts))  -- returns-3

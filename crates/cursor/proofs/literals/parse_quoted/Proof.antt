@@ -9,7 +9,7 @@ parse-quoted-spec =
     (tie.spec
     (λ c. search quotes)  -- returns
     (λ c. search quotes)  -- shared-slice-read-q
-    (λ c. search quotes)  -- add-find-byte
+    (λ c. search quotes)  -- add-from
     (λ c κs. search quotes)  -- find-byte-requires
     (λ c. search quotes)  -- enum-known-r
     (λ c. search quotes)  -- enum-told

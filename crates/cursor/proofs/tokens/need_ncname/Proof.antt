@@ -9,7 +9,10 @@ need-ncname-spec =
     (tie.spec
     (λ c κs. search parted)  -- parse-name-requires
     (λ c. search parted)  -- returns
-    (λ c κs. search parted)  -- has-byte-requires
+    (λ c κs. search parted)  -- find-byte-requires
+    (λ c. search parted)  -- enum-known-r
+    (λ c. search parted)  -- add-t9
     (λ c. search parted)  -- returns-2
-    (λ c. search parted)  -- add-t8
+    (λ c. search parted)  -- enum-told
+    (λ c. search parted)  -- add-t10
     (λ c. search parted))  -- returns-3

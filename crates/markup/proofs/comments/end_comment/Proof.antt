@@ -16,6 +16,8 @@ end-comment-spec =
     (λ c. search upwards)  -- part-check-comment-start
     (λ c. search upwards)  -- part-check-comment-end
     (λ c κs. search upwards)  -- check-comment-requires
+    (λ c. search upwards)  -- enum-told-2
+    (λ c. search upwards)  -- enum-told-3
     (λ c. search upwards)  -- returns-2
     (λ c. search upwards)  -- add-t10
     (λ c. search upwards))  -- returns-3

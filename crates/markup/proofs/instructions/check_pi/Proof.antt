@@ -7,9 +7,10 @@ pub check-pi-spec : {M : Type 1} → statement M
 check-pi-spec =
     tie.close
     (tie.spec
+    (λ c. search targets)  -- returns
     (λ c κs. search targets)  -- target-end-requires
     (λ c. search targets)  -- sub-check-target
     (λ c. search targets)  -- part-check-target-start
     (λ c. search targets)  -- part-check-target-end
     (λ c κs. search targets)  -- check-target-requires
-    (λ c. search targets))  -- returns
+    (λ c. search targets))  -- returns-2

@@ -22,6 +22,8 @@ parse-pi-spec =
     (λ c. search upwards)  -- part-check-pi-start
     (λ c. search upwards)  -- part-check-pi-end
     (λ c κs. search upwards)  -- check-pi-requires
+    (λ c. search upwards)  -- enum-told-2
+    (λ c. search upwards)  -- enum-told-3
     (λ c. search upwards)  -- returns-3
     (λ c. search upwards)  -- add-t17
     (λ c. search upwards))  -- returns-4

@@ -9,10 +9,10 @@ use Rattle.markup.proofs.instructions.target_end.Statement.{statement}
 use Rattle.markup.proofs.instructions.target_end.Tie as tie
 
 abbrev Inv-loop : tie.InvT-loop
-Inv-loop t i₀ i = i + run (none-of " \t\r\n") (drop i t) ≡ 0 + run (none-of " \t\r\n") (drop 0 t)
+Inv-loop t at i₀ i = i + run (none-of " \t\r\n") (drop i t) ≡ at + run (none-of " \t\r\n") (drop at t)
 
 abbrev μ-loop : tie.MeasureT-loop
-μ-loop t i₀ i = length t - i
+μ-loop t at i₀ i = length t - i
 
 pub target-end-spec : {M : Type 1} → statement M
 target-end-spec =

@@ -11,14 +11,17 @@ finish-decl-spec =
     (λ c. search finishing)  -- enum-known-r
     (λ c. search finishing)  -- enum-told
     (λ c. search finishing)  -- returns
-    (λ c. search finishing)  -- add-t11
+    (λ c. search finishing)  -- add-t10
     (λ c. search finishing)  -- returns-2
-    (λ c. search finishing)  -- sub-body
-    (λ c. search finishing)  -- part-body-start
-    (λ c. search finishing)  -- part-body-end
+    (λ c. search finishing)  -- sub-has-pe-reference
+    (λ c. search finishing)  -- part-has-pe-reference-start
+    (λ c. search finishing)  -- part-has-pe-reference-end
     (λ c κs. search finishing)  -- has-pe-reference-requires
     (λ c. search finishing)  -- add-t16
     (λ c. search finishing)  -- returns-3
+    (λ c. search finishing)  -- sub-parse-body
+    (λ c. search finishing)  -- part-parse-body-start
+    (λ c. search finishing)  -- part-parse-body-end
     (λ c κs. search finishing)  -- parse-body-requires
     (λ c. search finishing)  -- enum-told-2
     (λ c. search finishing)  -- enum-told-3
