@@ -84,6 +84,21 @@ uint8_t moxkeldi_check_doctype(const uint8_t *text, size_t len);
 /* An XML declaration: the text between `<?` and `?>`, as in  xml version="1.0" encoding="UTF-8"  */
 uint8_t moxkeldi_check_declaration(const uint8_t *text, size_t len);
 
+/*
+ * The same checks with a place. The answer is that of the check of the same name without _at, and *place is where reading stopped:
+ * how many bytes of the text stand before the place of the refusal, or `len` where the text is accepted; never more than `len`.
+ * What is missing is refused where it was expected; what is wrong, where it stands (a character reference at its &); what does not
+ * end, directly behind the sign that opened it, but a subset at the text's end. Bytes that are not UTF-8 are refused where the first
+ * of them stands, a text that is too long at 0.
+ */
+uint8_t moxkeldi_check_chars_at(const uint8_t *text, size_t len, size_t *place);
+uint8_t moxkeldi_check_text_at(const uint8_t *text, size_t len, size_t *place);
+uint8_t moxkeldi_check_attr_value_at(const uint8_t *text, size_t len, size_t *place);
+uint8_t moxkeldi_check_char_refs_at(const uint8_t *text, size_t len, size_t *place);
+uint8_t moxkeldi_check_name_at(const uint8_t *text, size_t len, size_t *place);
+uint8_t moxkeldi_check_doctype_at(const uint8_t *text, size_t len, size_t *place);
+uint8_t moxkeldi_check_declaration_at(const uint8_t *text, size_t len, size_t *place);
+
 /* Yes is 0, no is 2; 1 for a text that is too long. */
 uint8_t moxkeldi_is_utf8(const uint8_t *text, size_t len);
 
@@ -131,6 +146,9 @@ uint8_t moxkeldi_decl(moxkeldi_gate *gate, const uint8_t *text, size_t len);
  * A DOCTYPE (text as for moxkeldi_check_doctype). In this order: sets `started`; 18 for a character that XML does not allow; 21
  * where `seen` is set or `phase` is anything but MOXKELDI_PROLOG; sets `seen`; where the quick scan says "not closed", sets
  * `open` and answers MOXKELDI_OPEN; else checks the grammar. Refusals are counted as above.
+ *
+ * For the place of a refusal, give the same text to moxkeldi_check_chars_at (after 2 and 18) or moxkeldi_check_doctype_at (after any
+ * other number but 21, which is about the whole text); of an XML declaration, to moxkeldi_check_declaration_at.
  */
 uint8_t moxkeldi_doctype(moxkeldi_gate *gate, uint8_t phase, const uint8_t *text, size_t len);
 

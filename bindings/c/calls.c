@@ -96,6 +96,41 @@ static void checks(void)
     CHECK(is_utf8, "\xe6\x97", 2);
 }
 
+typedef uint8_t check_at(const uint8_t *text, size_t len, size_t *place);
+
+static void located(const char *call, check_at *function, const char *text, size_t len, uint8_t wanted, size_t place_wanted)
+{
+    uint8_t *copy = copied(text, len);
+    size_t place = 7777;
+    expect(call, text, function(copy, len, &place), wanted);
+    expect(call, text, place, place_wanted);
+    free(copy);
+}
+
+/* A text in two pieces, refused where the second begins; or accepted, with nothing in the second. */
+#define AT(call, read_well, from_there, wanted) \
+    located(#call, moxkeldi_##call, read_well from_there, sizeof(read_well from_there) - 1, wanted, sizeof(read_well) - 1)
+
+static void places(void)
+{
+    AT(check_chars_at, "a\tb", "", 0);
+    AT(check_chars_at, "a\xc3\xa9", "\x01", 18);
+    AT(check_chars_at, "a\xc3\xa9", "\xc3(", 2);
+    AT(check_text_at, "a]] b", "]]>", 19);
+    AT(check_text_at, "&#65;", "&#X41;", 15);
+    AT(check_attr_value_at, "&#60;", "<", 14);
+    AT(check_attr_value_at, "", "", 0);
+    AT(check_char_refs_at, "& &#65;", "&#0;", 16);
+    AT(check_name_at, "a.b", "/c", 4);
+    AT(check_name_at, "", "", 4);
+    AT(check_doctype_at, "a[<!ATTLIST b\n c CDATA #IMPLIED\n d CDATA", "'e'>]", 3);
+    AT(check_doctype_at, "a[<!ELEMENT b (c,d", "|e)>]", 13);
+    AT(check_doctype_at, "a[<!--", "b", 7);
+    AT(check_doctype_at, "a[<!ENTITY b ''>] ", "", 0);
+    AT(check_declaration_at, "xml version=\"", "2.0\"", 17);
+    AT(check_declaration_at, "xml version='1.0'", "", 0);
+}
+
 static void depth(void)
 {
     char text[200];
@@ -175,6 +210,9 @@ static void limit(void)
         expect("limit", "at it", functions[k](text, len), functions[k] == moxkeldi_check_declaration ? 8 : 0);
         expect("limit", "one byte more", functions[k](text, len + 1), 1);
     }
+    size_t start = 7777;
+    expect("check_doctype_at", "one byte more", moxkeldi_check_doctype_at(text, len + 1, &start), 1);
+    expect("check_doctype_at, place", "one byte more", start, 0);
     bool yes = true;
     expect("is_ncname", "one byte more", moxkeldi_is_ncname(text, len + 1, &yes), 1);
     expect("is_ncname, yes", "one byte more", yes, false);
@@ -253,6 +291,7 @@ static void gates(void)
 int main(void)
 {
     checks();
+    places();
     depth();
     ncnames();
     scans();

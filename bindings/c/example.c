@@ -1,6 +1,7 @@
 /*
  * example [FILE]: checks a DOCTYPE, the text between `<!DOCTYPE` and its closing `>`, read from FILE or, with "-" or no argument,
- * from standard input. Writes one line. Exit status: 0 accepted, 1 refused, 2 the text could not be read.
+ * from standard input. Writes one line: whether it is accepted, or why not and at which byte. Exit status: 0 accepted, 1 refused,
+ * 2 the text could not be read.
  */
 #include <moxkeldi.h>
 
@@ -58,13 +59,14 @@ int main(int argc, char **argv)
     if (in != stdin)
         fclose(in);
 
-    uint8_t number = moxkeldi_check_doctype(text, len);
+    size_t place;
+    uint8_t number = moxkeldi_check_doctype_at(text, len, &place);
     if (number == MOXKELDI_ACCEPTED) {
         puts("accepted");
         return 0;
     }
     /* the table has every number; a library that answers with another is not the one this was made for */
     const char *why = number < sizeof words / sizeof words[0] ? words[number] : "an unknown number";
-    printf("refused with %u: %s\n", (unsigned)number, why);
+    printf("refused with %u at byte %zu: %s\n", (unsigned)number, place, why);
     return 1;
 }

@@ -12,6 +12,14 @@
 //! assert_eq!(check_doctype(b" job [<!ATTLIST job datum CDATA \"&#0;\">]"), Err(Refusal::IllegalReference));
 //! ```
 //!
+//! Each check has a form that also tells where the text is refused:
+//!
+//! ```
+//! let refused = moxkeldi::check_doctype_at(b" job SYSTEM job.dtd").unwrap_err();
+//! assert_eq!(refused.offset(), 12);
+//! assert_eq!(refused.to_string(), "a quoted literal is missing, at byte 12");
+//! ```
+//!
 //! A document's declaration and DOCTYPE together go through a [`Gate`]:
 //!
 //! ```
@@ -32,6 +40,7 @@
 
 mod checks;
 mod gate;
+mod places;
 mod refusal;
 mod scan;
 mod sys;
@@ -41,5 +50,9 @@ pub use checks::{
     check_text, is_ncname, is_utf8, LIMIT,
 };
 pub use gate::{Doctype, Gate, Phase};
+pub use places::{
+    check_attr_value_at, check_char_refs_at, check_chars_at, check_declaration_at,
+    check_doctype_at, check_name_at, check_text_at, Refused,
+};
 pub use refusal::Refusal;
 pub use scan::{scan, Scan};

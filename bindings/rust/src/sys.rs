@@ -35,6 +35,13 @@ mod c {
         pub(super) fn moxkeldi_check_name(text: *const u8, len: usize) -> u8;
         pub(super) fn moxkeldi_check_doctype(text: *const u8, len: usize) -> u8;
         pub(super) fn moxkeldi_check_declaration(text: *const u8, len: usize) -> u8;
+        pub(super) fn moxkeldi_check_chars_at(text: *const u8, len: usize, place: *mut usize) -> u8;
+        pub(super) fn moxkeldi_check_text_at(text: *const u8, len: usize, place: *mut usize) -> u8;
+        pub(super) fn moxkeldi_check_attr_value_at(text: *const u8, len: usize, place: *mut usize) -> u8;
+        pub(super) fn moxkeldi_check_char_refs_at(text: *const u8, len: usize, place: *mut usize) -> u8;
+        pub(super) fn moxkeldi_check_name_at(text: *const u8, len: usize, place: *mut usize) -> u8;
+        pub(super) fn moxkeldi_check_doctype_at(text: *const u8, len: usize, place: *mut usize) -> u8;
+        pub(super) fn moxkeldi_check_declaration_at(text: *const u8, len: usize, place: *mut usize) -> u8;
         pub(super) fn moxkeldi_is_utf8(text: *const u8, len: usize) -> u8;
         pub(super) fn moxkeldi_is_ncname(text: *const u8, len: usize, yes: *mut u8) -> u8;
         pub(super) fn moxkeldi_scan(
@@ -70,6 +77,26 @@ of_text! {
     check_doctype: moxkeldi_check_doctype;
     check_declaration: moxkeldi_check_declaration;
     is_utf8: moxkeldi_is_utf8;
+}
+
+macro_rules! of_text_at {
+    ($($name:ident: $foreign:ident;)*) => {
+        $(pub(crate) fn $name(text: &[u8]) -> (u8, usize) {
+            let mut place = 0;
+            let number = unsafe { c::$foreign(text.as_ptr(), text.len(), &mut place) };
+            (number, place)
+        })*
+    };
+}
+
+of_text_at! {
+    check_chars_at: moxkeldi_check_chars_at;
+    check_text_at: moxkeldi_check_text_at;
+    check_attr_value_at: moxkeldi_check_attr_value_at;
+    check_char_refs_at: moxkeldi_check_char_refs_at;
+    check_name_at: moxkeldi_check_name_at;
+    check_doctype_at: moxkeldi_check_doctype_at;
+    check_declaration_at: moxkeldi_check_declaration_at;
 }
 
 pub(crate) fn is_ncname(text: &[u8]) -> (u8, bool) {
