@@ -7,6 +7,7 @@ mod damage;
 mod fuzz;
 mod generate;
 mod lists;
+mod places;
 mod port;
 mod random;
 
@@ -53,6 +54,11 @@ fn list(path: &str) -> Result<Counts, String> {
             (rust, port) = (Gate::new(record), port::Gate::new(record));
             continue;
         }
+        if let Some(plain) = call.strip_suffix("_at") {
+            counts.compared += 1;
+            counts.differ += placed(path, k, plain, &line) as u64;
+            continue;
+        }
         let wanted = answer(call, &line.text)
             .or_else(|| Some(record_text(rust.answer(call, &line.text)?, &rust.record())));
         let given = port::answer(call, &line.text).or_else(|| port.answer(call, &line.text));
@@ -73,9 +79,29 @@ fn list(path: &str) -> Result<Counts, String> {
                 line.answer
             );
         }
-        counts.differ += (wanted != given || line.answer != wanted && line.answer != "?") as u64;
+        let place = places::fault(call, &wanted, &line.text);
+        if let Some(given) = &place {
+            print!("{path}:{k}: ");
+            difference(call, &wanted, given, &line.text, 200);
+        }
+        let differs = wanted != given || line.answer != wanted && line.answer != "?";
+        counts.differ += (differs || place.is_some()) as u64;
     }
     Ok(counts)
+}
+
+/// A line whose answer is `number@place`, written by hand: whether the number is not the Rust's, or the port's answer another.
+fn placed(path: &str, k: usize, plain: &str, line: &lists::Line) -> bool {
+    let number = answer(plain, &line.text);
+    let given = port::answer(&line.call, &line.text);
+    let right = line.answer.split('@').next() == number.as_deref() && given.as_deref() == Some(&line.answer);
+    if !right {
+        println!(
+            "{path}:{k}: {}: the list says {}, the Rust {number:?}, the port {given:?}",
+            line.call, line.answer
+        );
+    }
+    !right
 }
 
 fn lists(paths: &[String]) -> Result<u64, String> {

@@ -2,7 +2,7 @@
 use crate::damage::damaged;
 use crate::generate::Generator;
 use crate::random::Random;
-use crate::{difference, port};
+use crate::{difference, places, port};
 use oracle::{Gate, Record, answer, record_text};
 
 #[rustfmt::skip]
@@ -27,7 +27,7 @@ impl Samples {
 }
 
 fn kind(call: &str) -> usize {
-    match call {
+    match call.strip_suffix("_at").unwrap_or(call) {
         "check_doctype" | "scan" | "doctype0" | "doctype1" | "doctype2" => 0,
         "check_declaration" | "decl" => 1,
         "check_name" | "is_ncname" | "name_part" => 2,
@@ -78,11 +78,15 @@ fn single(random: &mut Random, samples: &Samples) -> u64 {
         answer(call, &text).unwrap(),
         port::answer(call, &text).unwrap(),
     );
-    if wanted == given {
-        return 0;
+    if wanted != given {
+        difference(call, &wanted, &given, &text, usize::MAX);
+        return 1;
     }
-    difference(call, &wanted, &given, &text, usize::MAX);
-    1
+    if let Some(given) = places::fault(call, &wanted, &text) {
+        difference(call, &wanted, &given, &text, usize::MAX);
+        return 1;
+    }
+    0
 }
 
 /// One to six calls on a record that begins anywhere, and often where a document begins.

@@ -11,6 +11,7 @@ struct RawGate {
 }
 
 pub type Check = unsafe extern "C" fn(*const u8, usize) -> u8;
+type CheckAt = unsafe extern "C" fn(*const u8, usize, *mut usize) -> u8;
 
 unsafe extern "C" {
     fn moxkeldi_check_chars(text: *const u8, len: usize) -> u8;
@@ -20,6 +21,13 @@ unsafe extern "C" {
     fn moxkeldi_check_name(text: *const u8, len: usize) -> u8;
     fn moxkeldi_check_doctype(text: *const u8, len: usize) -> u8;
     fn moxkeldi_check_declaration(text: *const u8, len: usize) -> u8;
+    fn moxkeldi_check_chars_at(text: *const u8, len: usize, place: *mut usize) -> u8;
+    fn moxkeldi_check_text_at(text: *const u8, len: usize, place: *mut usize) -> u8;
+    fn moxkeldi_check_attr_value_at(text: *const u8, len: usize, place: *mut usize) -> u8;
+    fn moxkeldi_check_char_refs_at(text: *const u8, len: usize, place: *mut usize) -> u8;
+    fn moxkeldi_check_name_at(text: *const u8, len: usize, place: *mut usize) -> u8;
+    fn moxkeldi_check_doctype_at(text: *const u8, len: usize, place: *mut usize) -> u8;
+    fn moxkeldi_check_declaration_at(text: *const u8, len: usize, place: *mut usize) -> u8;
     fn moxkeldi_is_utf8(text: *const u8, len: usize) -> u8;
     fn moxkeldi_is_ncname(text: *const u8, len: usize, yes: *mut u8) -> u8;
     fn moxkeldi_scan(text: *const u8, len: usize, answer: *mut u8, place: *mut usize) -> u8;
@@ -37,6 +45,25 @@ pub const CHECKS: &[(&str, Check)] = &[
     ("check_doctype", moxkeldi_check_doctype),
     ("check_declaration", moxkeldi_check_declaration),
 ];
+
+/// The same with a place, by the names of the checks without one.
+const CHECKS_AT: &[(&str, CheckAt)] = &[
+    ("check_chars", moxkeldi_check_chars_at),
+    ("check_text", moxkeldi_check_text_at),
+    ("check_attr_value", moxkeldi_check_attr_value_at),
+    ("check_char_refs", moxkeldi_check_char_refs_at),
+    ("check_name", moxkeldi_check_name_at),
+    ("check_doctype", moxkeldi_check_doctype_at),
+    ("check_declaration", moxkeldi_check_declaration_at),
+];
+
+/// The number of a check, and what `*place` holds after its form with a place; None where the call has no such form.
+pub fn stop(call: &str, text: &[u8]) -> Option<(u8, usize)> {
+    let (_, check) = CHECKS_AT.iter().find(|(name, _)| *name == call)?;
+    let mut place = usize::MAX;
+    let number = unsafe { check(text.as_ptr(), text.len(), &mut place) };
+    Some((number, place))
+}
 
 pub fn is_utf8(text: &[u8]) -> u8 {
     unsafe { moxkeldi_is_utf8(text.as_ptr(), text.len()) }
@@ -59,6 +86,9 @@ pub fn scan(text: &[u8], mut answer: u8, mut place: usize) -> (u8, u8, usize) {
 pub fn answer(call: &str, text: &[u8]) -> Option<String> {
     if let Some((_, check)) = CHECKS.iter().find(|(name, _)| *name == call) {
         return Some(unsafe { check(text.as_ptr(), text.len()) }.to_string());
+    }
+    if let Some((number, place)) = call.strip_suffix("_at").and_then(|plain| stop(plain, text)) {
+        return Some(format!("{number}@{place}"));
     }
     Some(match call {
         "utf8" => match is_utf8(text) {

@@ -1,11 +1,12 @@
 // The calls that keep no record. (Those that do are in gates.rt.)
 use crate::bytes;
+use crate::places;
 use crate::reply::Reply;
 use classes::Names;
 use scan::Scanned;
 
 // What the call named `word` answers on `text`. A new call is one more `if` here, or in `number` or
-// `character_number` where it answers by a number alone.
+// `character_number` where it answers by a number alone, or in places.rt where it tells a place.
 pub fn reply(word: &[u8], text: &[u8]) -> Reply {
     if bytes::same(word, b"utf8") {
         let verdict = source::is_utf8(text);
@@ -51,7 +52,7 @@ fn character_number(word: &[u8], text: &[u8]) -> Reply {
     if bytes::same(word, b"check_char_refs") {
         return Reply::Number(chars::check_char_refs(text));
     }
-    Reply::Unknown
+    places::reply(word, text)
 }
 
 // The length of the name that `text` begins with, where the text may be read at all.

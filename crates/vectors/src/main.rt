@@ -8,6 +8,7 @@ mod bytes;
 mod calls;
 mod gates;
 mod line;
+mod places;
 mod repeat;
 mod reply;
 mod report;

@@ -9,6 +9,8 @@ pub enum Reply {
     Number(u8),
     // a number, and `y` or `n`
     Verdict(u8, bool),
+    // a number and a place, as `13@24`
+    Placed(u8, usize),
     // a letter
     Word(u8),
     // a letter and a number of bytes, as `l5`
@@ -24,6 +26,7 @@ pub fn spell(reply: Reply, out: &mut [u8]) -> usize {
         Reply::Unknown => 0,
         Reply::Number(number) => bytes::decimal(out, 0, number as u64),
         Reply::Verdict(number, yes) => verdict(number, yes, out),
+        Reply::Placed(number, place) => placed(number, place, out),
         Reply::Word(letter) => bytes::put(out, 0, letter),
         Reply::Measure(letter, size) => measure(letter, size, out),
         Reply::Open => bytes::append(out, 0, b"open"),
@@ -33,6 +36,12 @@ pub fn spell(reply: Reply, out: &mut [u8]) -> usize {
 fn verdict(number: u8, yes: bool, out: &mut [u8]) -> usize {
     let at = bytes::decimal(out, 0, number as u64);
     bytes::put(out, at, if yes { b'y' } else { b'n' })
+}
+
+fn placed(number: u8, place: usize, out: &mut [u8]) -> usize {
+    let at = bytes::decimal(out, 0, number as u64);
+    let at = bytes::put(out, at, b'@');
+    bytes::decimal(out, at, place as u64)
 }
 
 fn measure(letter: u8, size: usize, out: &mut [u8]) -> usize {
