@@ -25,6 +25,7 @@ pub fn check_chars(text: &[u8]) -> u8
     chars_number(text)
 }
 
+// The same with the place: the first character that is none.
 pub fn check_chars_at(text: &[u8]) -> Stop
     ensures { λ r. ⌜ Stops check-chars (now (text .entry)) (r .number) (r .place) ⌝ }
 {
@@ -47,6 +48,7 @@ pub fn check_char_refs(text: &[u8]) -> u8
     char_refs_number(text)
 }
 
+// The same with the place: the '&' of the first bad reference.
 pub fn check_char_refs_at(text: &[u8]) -> Stop
     ensures { λ r. ⌜ Stops check-char-refs (now (text .entry)) (r .number) (r .place) ⌝ }
 {

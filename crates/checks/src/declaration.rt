@@ -158,6 +158,7 @@ pub fn check_declaration(text: &[u8]) -> u8
     declaration_number(text)
 }
 
+// The same with the place where it is refused.
 pub fn check_declaration_at(text: &[u8]) -> Stop
     ensures { λ r. ⌜ Stops check-declaration (now (text .entry)) (r .number) (r .place) ⌝ }
 {

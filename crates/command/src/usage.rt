@@ -30,7 +30,7 @@ Checks the XML declaration and the DOCTYPE of each file, and says on a line:
   FILE:LINE:COLUMN: refused with NUMBER: the number in words
 The column counts characters. A FILE of - is standard input.
 
-  -v         also show what is refused
+  -v         also show the line, and under it where it is refused
   --numbers  print the numbers and their words
   --help     print this
   --         only files follow

@@ -93,6 +93,7 @@ pub fn check_doctype(text: &[u8]) -> u8
     doctype_number(text)
 }
 
+// The same with the place where it is refused.
 pub fn check_doctype_at(text: &[u8]) -> Stop
     ensures { λ r. ⌜ Stops (check-doctype appendix-B) (now (text .entry)) (r .number) (r .place) ⌝ }
 {

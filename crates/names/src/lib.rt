@@ -187,6 +187,7 @@ pub fn check_name(text: &[u8]) -> u8
     name_number(text, Names::AppendixB)
 }
 
+// The same with the place: where no name begins, or its first character that is none of a name.
 pub fn check_name_at(text: &[u8]) -> Stop
     ensures { λ r. ⌜ Stops (check-name appendix-B) (now (text .entry)) (r .number) (r .place) ⌝ }
 {

@@ -24,6 +24,7 @@ pub fn check_text(text: &[u8]) -> u8
     text_number(text)
 }
 
+// The same with the place where it is refused.
 pub fn check_text_at(text: &[u8]) -> Stop
     ensures { λ r. ⌜ Stops check-text (now (text .entry)) (r .number) (r .place) ⌝ }
 {
@@ -46,6 +47,7 @@ pub fn check_attr_value(text: &[u8]) -> u8
     attr_value_number(text)
 }
 
+// The same with the place where it is refused.
 pub fn check_attr_value_at(text: &[u8]) -> Stop
     ensures { λ r. ⌜ Stops check-attr-value (now (text .entry)) (r .number) (r .place) ⌝ }
 {
