@@ -57,6 +57,11 @@ pub const DOCTYPES: &[Shape] = &[
             "<!-- a comment of some eighty characters, it's \"plain\" prose with ] and > inside - done -->\n".to_string()
         })
     }),
+    ("instructions", |size| {
+        filled(HEAD, "]", size, |k| {
+            format!("<?view{k} sheet=\"{k}\" of=\"the survey\"?>\n")
+        })
+    }),
     ("deepmodels", |size| {
         filled(HEAD, "]", size, |k| {
             format!("<!ELEMENT d{k} {}a{}>\n", "(".repeat(60), ")".repeat(60))
