@@ -94,7 +94,8 @@ fn list(path: &str) -> Result<Counts, String> {
 fn placed(path: &str, k: usize, plain: &str, line: &lists::Line) -> bool {
     let number = answer(plain, &line.text);
     let given = port::answer(&line.call, &line.text);
-    let right = line.answer.split('@').next() == number.as_deref() && given.as_deref() == Some(&line.answer);
+    let right = line.answer.split('@').next() == number.as_deref()
+        && given.as_deref() == Some(&line.answer);
     if !right {
         println!(
             "{path}:{k}: {}: the list says {}, the Rust {number:?}, the port {given:?}",

@@ -32,14 +32,24 @@ fn fits(number: u8, text: &[u8], place: usize) -> bool {
         6 => !matches!(first, Some(b'"' | b'\'')) && !first.is_some_and(space),
         7 => opened(front) || rest.is_empty(),
         9 => first.is_some_and(|b| !space(b)),
-        10 => first.is_some_and(|b| !b.is_ascii_alphanumeric() && !b" \r\n-'()+,./:=?;!*#@$_%".contains(&b)),
-        11 => rest.get(..3).is_some_and(|t| t.eq_ignore_ascii_case(b"xml")) && front.ends_with(b"<?"),
+        10 => first.is_some_and(|b| {
+            !b.is_ascii_alphanumeric() && !b" \r\n-'()+,./:=?;!*#@$_%".contains(&b)
+        }),
+        11 => {
+            rest.get(..3)
+                .is_some_and(|t| t.eq_ignore_ascii_case(b"xml"))
+                && front.ends_with(b"<?")
+        }
         12 => rest.starts_with(b"--"),
         13 => matches!(first, Some(b',' | b'|')) || front.ends_with(b")"),
         14 => first == Some(b'<'),
         15 | 16 => rest.starts_with(b"&#"),
         17 => front.ends_with(b"\"") || front.ends_with(b"'"),
-        18 => first.is_some_and(|b| b < 0x20) || rest.starts_with(b"\xef\xbf\xbe") || rest.starts_with(b"\xef\xbf\xbf"),
+        18 => {
+            first.is_some_and(|b| b < 0x20)
+                || rest.starts_with(b"\xef\xbf\xbe")
+                || rest.starts_with(b"\xef\xbf\xbf")
+        }
         19 => rest.starts_with(b"]]>"),
         20 => first == Some(b'(') && front.iter().filter(|b| **b == b'(').count() >= 64,
         _ => true,
@@ -48,6 +58,15 @@ fn fits(number: u8, text: &[u8], place: usize) -> bool {
 
 /// The signs that open what needs an end.
 fn opened(front: &[u8]) -> bool {
-    let signs: [&[u8]; 8] = [b"\"", b"'", b"<!--", b"<?", b"<!ELEMENT", b"<!ATTLIST", b"<!ENTITY", b"<!NOTATION"];
+    let signs: [&[u8]; 8] = [
+        b"\"",
+        b"'",
+        b"<!--",
+        b"<?",
+        b"<!ELEMENT",
+        b"<!ATTLIST",
+        b"<!ENTITY",
+        b"<!NOTATION",
+    ];
     signs.iter().any(|sign| front.ends_with(sign))
 }

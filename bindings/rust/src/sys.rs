@@ -35,13 +35,30 @@ mod c {
         pub(super) fn moxkeldi_check_name(text: *const u8, len: usize) -> u8;
         pub(super) fn moxkeldi_check_doctype(text: *const u8, len: usize) -> u8;
         pub(super) fn moxkeldi_check_declaration(text: *const u8, len: usize) -> u8;
-        pub(super) fn moxkeldi_check_chars_at(text: *const u8, len: usize, place: *mut usize) -> u8;
+        pub(super) fn moxkeldi_check_chars_at(text: *const u8, len: usize, place: *mut usize)
+            -> u8;
         pub(super) fn moxkeldi_check_text_at(text: *const u8, len: usize, place: *mut usize) -> u8;
-        pub(super) fn moxkeldi_check_attr_value_at(text: *const u8, len: usize, place: *mut usize) -> u8;
-        pub(super) fn moxkeldi_check_char_refs_at(text: *const u8, len: usize, place: *mut usize) -> u8;
+        pub(super) fn moxkeldi_check_attr_value_at(
+            text: *const u8,
+            len: usize,
+            place: *mut usize,
+        ) -> u8;
+        pub(super) fn moxkeldi_check_char_refs_at(
+            text: *const u8,
+            len: usize,
+            place: *mut usize,
+        ) -> u8;
         pub(super) fn moxkeldi_check_name_at(text: *const u8, len: usize, place: *mut usize) -> u8;
-        pub(super) fn moxkeldi_check_doctype_at(text: *const u8, len: usize, place: *mut usize) -> u8;
-        pub(super) fn moxkeldi_check_declaration_at(text: *const u8, len: usize, place: *mut usize) -> u8;
+        pub(super) fn moxkeldi_check_doctype_at(
+            text: *const u8,
+            len: usize,
+            place: *mut usize,
+        ) -> u8;
+        pub(super) fn moxkeldi_check_declaration_at(
+            text: *const u8,
+            len: usize,
+            place: *mut usize,
+        ) -> u8;
         pub(super) fn moxkeldi_is_utf8(text: *const u8, len: usize) -> u8;
         pub(super) fn moxkeldi_is_ncname(text: *const u8, len: usize, yes: *mut u8) -> u8;
         pub(super) fn moxkeldi_scan(

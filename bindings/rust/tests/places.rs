@@ -1,7 +1,12 @@
 //! Where a text is refused: texts in two pieces, refused where the second begins.
 use moxkeldi::*;
 
-fn refused(check: fn(&[u8]) -> Result<(), Refused>, read_well: &str, from_there: &str, why: Refusal) {
+fn refused(
+    check: fn(&[u8]) -> Result<(), Refused>,
+    read_well: &str,
+    from_there: &str,
+    why: Refusal,
+) {
     let text = format!("{read_well}{from_there}");
     let refused = check(text.as_bytes()).expect_err(&text);
     assert_eq!(refused.refusal(), why, "{text}");
@@ -14,7 +19,11 @@ fn doctypes() {
         // something missing: where it was expected
         ("a SYSTEM", "", Refusal::SpaceRequired),
         ("a SYSTEM ", "b", Refusal::LiteralMissing),
-        ("a[<!ATTLIST b\n c CDATA #IMPLIED\n d CDATA", "'e'>]", Refusal::SpaceRequired),
+        (
+            "a[<!ATTLIST b\n c CDATA #IMPLIED\n d CDATA",
+            "'e'>]",
+            Refusal::SpaceRequired,
+        ),
         ("a[<!ELEMENT b (#PCDATA|c)", ">]", Refusal::ContentModel),
         ("a[<!ELEMENT é (c)", "d>]", Refusal::Trailing),
         // something wrong: where it stands
@@ -38,12 +47,27 @@ fn doctypes() {
 
 #[test]
 fn the_other_checks() {
-    refused(check_chars_at, "a\u{e9}", "\u{1}", Refusal::IllegalCharacter);
+    refused(
+        check_chars_at,
+        "a\u{e9}",
+        "\u{1}",
+        Refusal::IllegalCharacter,
+    );
     refused(check_text_at, "a]] ", "]]>", Refusal::CdataEnd);
     refused(check_attr_value_at, "&#60;", "<", Refusal::LessThan);
-    refused(check_char_refs_at, "&#65;", "&#1114112;", Refusal::IllegalReference);
+    refused(
+        check_char_refs_at,
+        "&#65;",
+        "&#1114112;",
+        Refusal::IllegalReference,
+    );
     refused(check_name_at, "\u{e9}.b", "/c", Refusal::BadName);
-    refused(check_declaration_at, "xml version='1.0'", "encoding='u'", Refusal::SpaceRequired);
+    refused(
+        check_declaration_at,
+        "xml version='1.0'",
+        "encoding='u'",
+        Refusal::SpaceRequired,
+    );
 }
 
 #[test]
