@@ -1,7 +1,12 @@
-//! before [CALL]: times the checks of two libraries in turn, the earlier one's under names that begin with `before_`.
+//! The checks of two libraries, the earlier one's under names that begin with `before_`.
+//!
+//! before time [CALL]                 times them in turn
+//! before list [CALL]                 the calls and their shapes, a tab between
+//! before run WHICH CALL SHAPE TIMES  calls one of them (WHICH is `earlier` or `this`) on a text of 64 KiB
 mod shapes;
 mod timing;
 
+use shapes::Shape;
 use std::hint::black_box;
 
 type Check = unsafe extern "C" fn(*const u8, usize) -> u8;
@@ -30,34 +35,33 @@ checks! {
     "check_declaration": before_moxkeldi_check_declaration, moxkeldi_check_declaration;
 }
 
-fn row(call: &str, (name, shape): shapes::Shape) {
-    let Some((_, before, now)) = CHECKS.iter().find(|(c, _, _)| *c == call) else {
-        return;
-    };
-    print!("{call:<18}{name:<22}");
-    for (_, size) in SIZES {
-        let text = shape(size);
-        let timed = |check: Check| {
-            let text = text.as_bytes();
-            move || unsafe { check(black_box(text.as_ptr()), text.len()) == 0 }
-        };
-        let (before, now) = (timed(*before), timed(*now));
-        assert!(before() && now(), "{call} refuses {name}");
-        let times = timing::in_turn(&[&before, &now]);
-        let of_byte = |k: usize| times[k] / text.len() as f64;
-        print!(
-            " | {:>7.3} {:>7.3} {:>5.2}",
-            of_byte(0),
-            of_byte(1),
-            times[1] / times[0]
-        );
-    }
-    println!();
+fn both(call: &str) -> Option<(Check, Check)> {
+    let (_, before, now) = CHECKS.iter().find(|(name, _, _)| *name == call)?;
+    Some((*before, *now))
 }
 
-fn main() {
-    let only = std::env::args().nth(1);
-    let wanted = |call: &str| only.as_deref().is_none_or(|o| o == call);
+/// The shapes of the checks that both libraries have; the usual declaration is always its own size.
+fn rows(only: Option<&str>) -> Vec<(&'static str, Shape)> {
+    let mut rows: Vec<(&str, Shape)> = Vec::new();
+    rows.extend(
+        shapes::DOCTYPES
+            .iter()
+            .map(|shape| ("check_doctype", *shape)),
+    );
+    rows.extend(shapes::OTHERS.iter().copied());
+    rows.push((
+        "check_declaration",
+        ("usual", |_| shapes::USUAL_DECLARATION.to_string()),
+    ));
+    rows.retain(|(call, _)| both(call).is_some() && only.is_none_or(|o| o == *call));
+    rows
+}
+
+fn accepts(check: Check, text: &str) -> bool {
+    unsafe { check(black_box(text.as_ptr()), text.len()) == 0 }
+}
+
+fn time(only: Option<&str>) {
     println!(
         "Nanoseconds per byte, best of the rounds, the earlier library and this one in turn; ratio = this / earlier\n"
     );
@@ -67,17 +71,48 @@ fn main() {
     }
     print!("\n{:<18}{:<22}", "call", "shape");
     println!("{}", " | earlier    this ratio".repeat(SIZES.len()));
-    for shape in shapes::DOCTYPES.iter().filter(|_| wanted("check_doctype")) {
-        row("check_doctype", *shape);
+    for (call, (name, shape)) in rows(only) {
+        let (before, now) = both(call).expect("a row");
+        print!("{call:<18}{name:<22}");
+        for (_, size) in SIZES {
+            let text = shape(size);
+            let (before, now) = (|| accepts(before, &text), || accepts(now, &text));
+            assert!(before() && now(), "{call} refuses {name}");
+            let times = timing::in_turn(&[&before, &now]);
+            let [before, now] = [times[0], times[1]].map(|t| t / text.len() as f64);
+            print!(" | {before:>7.3} {now:>7.3} {:>5.2}", now / before);
+        }
+        println!();
     }
-    for (call, shape) in shapes::OTHERS.iter().filter(|(call, _)| wanted(call)) {
-        row(call, *shape);
+}
+
+fn run(which: &str, call: &str, name: &str, times: usize) {
+    let (_, (_, shape)) = rows(Some(call))
+        .into_iter()
+        .find(|(_, (n, _))| *n == name)
+        .expect("a shape of the call");
+    let (before, now) = both(call).expect("a call");
+    let check = if which == "earlier" { before } else { now };
+    let text = shape(1 << 16);
+    for _ in 0..times {
+        assert!(accepts(check, &text));
     }
-    // always its own size
-    if wanted("check_declaration") {
-        row(
-            "check_declaration",
-            ("usual", |_| shapes::USUAL_DECLARATION.to_string()),
-        );
+}
+
+fn main() {
+    let args: Vec<String> = std::env::args().skip(1).collect();
+    let words: Vec<&str> = args.iter().map(String::as_str).collect();
+    match words[..] {
+        ["time"] => time(None),
+        ["time", call] => time(Some(call)),
+        ["list", ref call @ ..] => {
+            for (call, (name, _)) in rows(call.first().copied()) {
+                println!("{call}\t{name}");
+            }
+        }
+        ["run", which, call, name, times] => {
+            run(which, call, name, times.parse().expect("a number"))
+        }
+        _ => panic!("before time|list|run"),
     }
 }
