@@ -28,6 +28,7 @@ fn fits(number: u8, text: &[u8], place: usize) -> bool {
         1 => place == 0,
         2 => std::str::from_utf8(text).is_err_and(|e| e.valid_up_to() == place),
         3 => !first.is_some_and(space),
+        4 => !first.is_some_and(|b| b.is_ascii_alphabetic() || b == b'_' || b == b':'),
         5 => first == Some(b':'),
         6 => !matches!(first, Some(b'"' | b'\'')) && !first.is_some_and(space),
         7 => opened(front) || rest.is_empty(),
