@@ -1,5 +1,5 @@
 -- The two numbers in front of a public call with their places, and what a check with a place promises. Assumes nothing.
-use mathlib.Core.Path.{_≡_, refl, sym, ap, _∙_}
+use mathlib.Core.Path.{_≡_, refl, ap, _∙_}
 use mathlib.Core.Logic.{_⊎_, inl, inr}
 use mathlib.Core.Bool.{Bool, true, false}
 use mathlib.Core.List.{List}
@@ -12,7 +12,7 @@ use lib.ListN.{length}
 use Rattle.spec.specs.Basics.{pick}
 use Rattle.spec.specs.Grammar.Characters.{Text}
 use Rattle.spec.specs.Promises.{Stops}
-use Rattle.spec.specs.Reading.Readers.{Result, ok, err, Reader, number-of, stop-of, on-ok, nothing}
+use Rattle.spec.specs.Reading.Readers.{ok, err, Reader, number-of, stop-of, on-ok, nothing}
 use Rattle.spec.specs.Reading.Refusals.{number, too-long, not-utf8}
 use Rattle.spec.specs.Reading.Source.{utf8, limit, admit, checked, checked-at}
 use Rattle.spec.proofs.Characters.Valid.{utf8-cases, utf8-complete}

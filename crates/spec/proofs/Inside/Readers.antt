@@ -1,7 +1,7 @@
 -- The readers of the checks, one after the other: each stops at a place of the text. Assumes nothing.
 use mathlib.Core.Bool.{Bool, true, false, _||_, not}
 use mathlib.Core.List.{List, [], _∷_}
-use mathlib.Core.Path.{_≡_, refl, sym, ap, _∙_}
+use mathlib.Core.Path.{_≡_, refl}
 use Prim.Native.Nat.{ℕ, zero, suc, _+_, _-_, _≤_, _<_}
 use Prim.Native.String.{String}
 use native.Mathlib.Omega.{arith}
@@ -17,7 +17,7 @@ use Rattle.spec.specs.Reading.Checks
 use Rattle.spec.specs.Reading.Dtd
 use Rattle.spec.specs.Reading.Places.{Place, at, nowhere, outside}
 use Rattle.spec.specs.Reading.Readers.{Result, ok, err, Reader, stop-of, on-ok, nothing, starts, run, contains, before}
-use Rattle.spec.specs.Reading.Refusals.{Refusal, has-colon, reserved-target, unterminated, bad-pubid, bad-reference, illegal-reference}
+use Rattle.spec.specs.Reading.Refusals.{has-colon, reserved-target, unterminated, bad-pubid, bad-reference, illegal-reference}
 use Rattle.spec.specs.Reading.Wellformed
 use Rattle.spec.proofs.Agreement.Words.{starts-within}
 use Rattle.spec.proofs.Base.Outside.{outside-within}
