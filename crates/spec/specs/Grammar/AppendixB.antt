@@ -1,5 +1,5 @@
 -- The name classes of Appendix B of XML 1.0's earlier editions: each class a table of range ends, first and last in turn, ascending.
--- Assumes nothing.
+-- Departure: the fifth edition's [4] and [4a] have more characters. Assumes nothing.
 use mathlib.Core.Bool.{Bool, true, false, _&&_, _||_}
 use mathlib.Core.List.{List, [], _∷_}
 use Prim.Native.Nat.{ℕ}

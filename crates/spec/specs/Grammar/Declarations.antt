@@ -7,11 +7,12 @@ use Rattle.spec.specs.Grammar.Names.{Dialect, Name, Nmtoken, NCName, PIT
 use Rattle.spec.specs.Grammar.Literals.{EntityValue, AttValue, SystemLiteral, ExternalID, PublicID}
 use Rattle.spec.specs.Grammar.ContentModels.{contentspec}
 
--- [15] Comment ::= '<!--' ((Char - '-') | ('-' (Char - '-')))* '-->'; departure: the text may end in one hyphen
+-- [15] Comment ::= '<!--' ((Char - '-') | ('-' (Char - '-')))* '-->';
+-- departures: the text may end in one hyphen; production 2 is not tested
 unfoldable pub Comment : Lang
 Comment = lit "<!--" · Star (Ch (none-of "-") ∣ (lit "-" · Ch (none-of "-"))) · Opt (lit "-") · lit "-->"
 
--- departure: a body that is only delimited, up to the first '>' outside quotes
+-- departures: a body that is only delimited, up to the first '>' outside quotes; production 2 is not tested
 unfoldable pub Delimited : Lang
 Delimited = Star (Ch (none-of "\"'>") ∣ SystemLiteral)
 
@@ -24,7 +25,7 @@ unfoldable pub DefaultDecl : Lang
 DefaultDecl = lit "#REQUIRED" ∣ lit "#IMPLIED" ∣ (Opt (lit "#FIXED" · S) · AttValue)
 
 module _ (D : Dialect) where
-  -- [16] PI ::= '<?' PITarget (S (Char* - (Char* '?>' Char*)))? '?>'
+  -- [16] PI ::= '<?' PITarget (S (Char* - (Char* '?>' Char*)))? '?>'; departure: production 2 is not tested
   unfoldable pub PI : Lang
   PI = lit "<?" · PITarget D · Opt (S · (Text ∖ (Text · lit "?>" · Text))) · lit "?>"
 

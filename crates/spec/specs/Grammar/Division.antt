@@ -41,7 +41,7 @@ module _ (D : Dialect) where
   entry-of pe comment = Comment
   entry-of pe reference = PEReference D
 
-  -- [28] what stands before the subset's '[', or all there is where it has none
+  -- [28] what stands before the subset's '[', or all there is where it has none; departure: the first S is optional
   abbrev pub Front : Lang
   Front = S? · Name D · Opt (S · ExternalID) · S?
 

@@ -8,7 +8,7 @@ use Rattle.spec.specs.Grammar.Declarations.{PI, Comment, markupdecl}
 
 module _ (D : Dialect) where
   -- [28b] intSubset ::= (markupdecl | DeclSep)*    [28a] DeclSep ::= PEReference | S;
-  -- parted at the first parameter-entity reference, after which bodies are only delimited
+  -- parted at the first parameter-entity reference; departure: after it bodies are only delimited
   unfoldable pub intSubset : Lang
   intSubset = Star (markupdecl D false ∣ S) · Opt (PEReference D · Star (markupdecl D true ∣ PEReference D ∣ S))
 

@@ -11,15 +11,16 @@ abbrev pub Quoted : Lang → Lang → Lang
 Quoted in-double in-single = (lit "\"" · in-double · lit "\"") ∣ (lit "'" · in-single · lit "'")
 
 -- [9] EntityValue ::= '"' ([^%&"] | PEReference | Reference)* '"' | "'" ([^%&'] | PEReference | Reference)* "'";
--- departures: '%' alone, and '&' without '#', are free
+-- departures: '%' alone, and '&' without '#', are free; production 2 is not tested
 unfoldable pub EntityValue : Lang
 EntityValue = Quoted (Referring (none-of "\"")) (Referring (none-of "'"))
 
--- [10] AttValue ::= '"' ([^<&"] | Reference)* '"' | "'" ([^<&'] | Reference)* "'"; departure: '&' without '#' is free
+-- [10] AttValue ::= '"' ([^<&"] | Reference)* '"' | "'" ([^<&'] | Reference)* "'";
+-- departures: '&' without '#' is free; production 2 is not tested
 unfoldable pub AttValue : Lang
 AttValue = Quoted (Referring (none-of "<\"")) (Referring (none-of "<'"))
 
--- [11] SystemLiteral ::= ('"' [^"]* '"') | ("'" [^']* "'")
+-- [11] SystemLiteral ::= ('"' [^"]* '"') | ("'" [^']* "'"); departure: production 2 is not tested
 unfoldable pub SystemLiteral : Lang
 SystemLiteral = Quoted (Star (Ch (none-of "\""))) (Star (Ch (none-of "'")))
 
