@@ -2,7 +2,7 @@
 use mathlib.Core.Path.{_≡_, refl, sym, ap, _∙_}
 use mathlib.Core.Logic.{_⊎_, inl, inr}
 use mathlib.Core.Bool.{Bool, true, false}
-use mathlib.Core.List.{List, [], _∷_}
+use mathlib.Core.List.{List, [], _∷_, _++_}
 use Prim.Native.Nat.{ℕ, _+_, _-_, _<_, _≤_}
 use Prim.Native.String.{String}
 use native.Mathlib.Omega.{arith}
@@ -31,12 +31,20 @@ unfoldable pub total : List ℕ → ℕ
 total [] = 0
 total (n ∷ ns) = n + total ns
 
--- the table's bytes and lengths
+-- the table's bytes and lengths: those of the keywords, in the order in which they are tried
+abbrev joined : List String → List ℕ
+joined [] = []
+joined (x ∷ xs) = ascii x ++ joined xs
+
+abbrev sized : List String → List ℕ
+sized [] = []
+sized (x ∷ xs) = length (ascii x) ∷ sized xs
+
 unfoldable pub keyword-bytes : List ℕ
-keyword-bytes = ascii "CDATAIDREFSIDREFIDENTITYENTITIESNMTOKENSNMTOKEN"
+keyword-bytes = joined tokenized
 
 unfoldable pub keyword-lengths : List ℕ
-keyword-lengths = 5 ∷ 6 ∷ 5 ∷ 2 ∷ 6 ∷ 8 ∷ 8 ∷ 7 ∷ []
+keyword-lengths = sized tokenized
 
 -- its rows are the keywords: one computed test
 pub rows-all : (s : List ℕ) (at : ℕ) → read (rows keyword-lengths keyword-bytes) s at ≡ read (word-among tokenized (refuse unexpected)) s at
