@@ -9,7 +9,8 @@ use lib.Dec.{eqb}
 use lib.ListN.{length, getD, take, drop, length-drop}
 use Rattle.spec.specs.Grammar.Languages.{ascii}
 use Rattle.spec.specs.Grammar.References.{digit}
-use Rattle.spec.specs.Grammar.XmlDecl.{latin-letter, enc-char}
+use Rattle.spec.specs.Grammar.XmlDecl.{enc-char}
+use Rattle.spec.specs.Grammar.Characters.{latin-letter}
 use Rattle.spec.specs.Reading.Checks.{all-of, is-version-num, is-enc-name, is-yes-or-no}
 use Rattle.spec.specs.Reading.Readers.{starts}
 use Rattle.spec.proofs.Base.Places.{take-rest}

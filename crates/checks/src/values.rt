@@ -2,7 +2,8 @@
 use search::at_keyword;
 ghost use mathlib.Core.Path.{_≡_};
 ghost use Rattle.spec.specs.Grammar.References.{digit};
-ghost use Rattle.spec.specs.Grammar.XmlDecl.{latin-letter, enc-char};
+ghost use Rattle.spec.specs.Grammar.XmlDecl.{enc-char};
+ghost use Rattle.spec.specs.Grammar.Characters.{latin-letter};
 ghost use Rattle.spec.specs.Reading.Checks.{all-of, is-version-num, is-enc-name, is-yes-or-no};
 ghost use Rattle.checks.specs.Values.{test-of};
 

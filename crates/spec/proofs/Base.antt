@@ -1,5 +1,6 @@
 -- Tests, places, answers and loops: laws for agreement and for code alike.
 pub mod Tests
+pub mod Tables
 pub mod Places
 pub mod Results
 pub mod Loops

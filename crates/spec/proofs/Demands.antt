@@ -11,7 +11,7 @@ use Rattle.spec.specs.Grammar.AppendixB.{appendix-B}
 use Rattle.spec.specs.Grammar.Characters.{Chars}
 use Rattle.spec.specs.Grammar.Division.{Front, Division}
 use Rattle.spec.specs.Grammar.Doctype.{doctypedecl, Misc}
-use Rattle.spec.specs.Grammar.Names.{Dialect, Name, NCName, with-groups, with-beyond}
+use Rattle.spec.specs.Grammar.Names.{Dialect, Name, NCName, with-groups, with-beyond, AsciiNames}
 use Rattle.spec.specs.Grammar.References.{Referred, CharData, AttText}
 use Rattle.spec.specs.Grammar.XmlDecl.{XMLDecl}
 use Rattle.spec.specs.Promises.{Checks, Stops, Tells, Covered, expected}
@@ -24,7 +24,8 @@ use Rattle.spec.specs.Reading.Places.{at}
 use Rattle.spec.specs.Reading.Scan.{scan}
 use Rattle.spec.specs.Reading.Source.{admit, checked, checked-at}
 use Rattle.spec.specs.Reading.Wellformed.{illegal-here, check-chars, check-char-refs, check-text, check-attr-value, check-name}
-use Rattle.spec.specs.Rows.{rows, spots}
+use Rattle.spec.specs.Rows.{All, Numbered, rows, Met, spots}
+use Rattle.spec.specs.Conditions.{Sided, samples, Passed, pieces, Limited, sizes, Ascii, alphabets}
 use Rattle.spec.specs.Grammar.Languages.{Lang, ascii, Star}
 use Rattle.spec.proofs.Agreement.Accepts.{promise, tells}
 use Rattle.spec.proofs.Characters.AppendixB.{appendix-B-ascii}
@@ -39,9 +40,8 @@ use Rattle.spec.proofs.Inside.Checks.{chars-placed, char-refs-placed, t
 use Rattle.spec.proofs.Prolog.Handed.{doctype-handed, declaration-handed}
 use Rattle.spec.proofs.Prolog.Heads.{doctype-ends}
 use Rattle.spec.proofs.Rows
-use Rattle.spec.proofs.Rows.{All}
+use Rattle.spec.proofs.Conditions
 use Rattle.spec.proofs.Wellformed.Checks.{chars-agree, char-refs-agree, text-agree, attr-value-agree, name-agrees}
-use Rattle.spec.proofs.Wellformed.Names.{AsciiNames}
 
 -- Demand 2: on every text the order of reading, with 1 and 2 in front, answers 0 exactly for what the grammar derives.
 abbrev Right : Reader → Lang → Type 0
@@ -77,8 +77,8 @@ pub ncname-right : (w : List ℕ) → Tells (NCName appendix-B) w (checked nothi
 ncname-right = tells (ncname-decides appendix-B appendix-B-ascii)
 
 -- document 01's sixteen texts have the numbers that stand beside them
-pub sixteen-rows : All Rows.Right rows
-sixteen-rows = Rows.rows-right
+pub sixteen-rows : All Numbered rows
+sixteen-rows = Rows.rows-numbered
 
 -- 20 is the answer exactly where the text may be looked at and a 65th open group is the first thing refused: whatever one more group is
 -- refused with, that is the answer then, at the same place
@@ -104,6 +104,21 @@ one-way-only = one-division appendix-B appendix-B-ascii
 -- are in it, and names that ']'; of a text without a subset it says "not opened".
 pub cut-anywhere : (t : List ℕ) (c : Covered appendix-B t) (cut : ℕ) → scan (take cut t) ≡ expected appendix-B c cut
 cut-anywhere = cuts-covered appendix-B appendix-B-ascii
+
+-- Which texts those are, from both sides: a table of texts that demand 3 speaks of, texts that its premise keeps out, and texts that the
+-- grammar does not derive.
+pub premise-shown : All Sided samples
+premise-shown = Rows.samples-sided
+
+-- The other conditions from both sides: how long a text may be, which name classes the theorems are for, what may stand before a DOCTYPE.
+pub limit-shown : All Limited sizes
+limit-shown = Conditions.sizes-limited
+
+pub ascii-shown : All Ascii alphabets
+ascii-shown = Conditions.alphabets-spelled
+
+pub misc-shown : All Passed pieces
+misc-shown = Rows.pieces-passed
 
 -- Every refusal has a place, and it lies within the text, 1 and 2 included; what is accepted is read to the text's end.
 abbrev Located : Reader → Type 0
@@ -131,7 +146,7 @@ pub declaration-located : Located check-declaration
 declaration-located w = declaration-placed .stops w _ _ refl refl
 
 -- Each text of the table that shows places is refused with its number where its second piece begins.
-pub places-shown : All Rows.Met spots
+pub places-shown : All Met spots
 places-shown = Rows.spots-met
 
 -- Where the characters are refused (18), an illegal one begins at that place, and none before it.

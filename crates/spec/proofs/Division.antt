@@ -8,4 +8,5 @@ pub mod Scans
 pub mod Parting
 pub mod Divides
 pub mod Places
+pub mod Covers
 pub mod Promised

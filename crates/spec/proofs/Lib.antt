@@ -6,6 +6,7 @@ pub mod Dtd
 pub mod Inside
 pub mod Checks
 pub mod Rows
+pub mod Conditions
 pub mod Division
 pub mod Prolog
 pub mod Demands

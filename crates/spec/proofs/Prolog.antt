@@ -2,4 +2,5 @@
 pub mod Turns
 pub mod Heads
 pub mod Misc
+pub mod MiscRead
 pub mod Handed

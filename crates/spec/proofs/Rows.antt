@@ -1,5 +1,4 @@
--- Each row of document 01's table: the order of reading gives its number, and the grammar derives its text exactly when that number
--- is 0. And each text in two pieces: it is refused with its number where the second begins. Assumes nothing.
+-- What is said of the rows of the tables whose tests read a text holds of each: by computing. Assumes nothing.
 use mathlib.Core.Path.{_≡_, refl, sym, _∙_}
 use mathlib.Core.Logic.{_↔_}
 use mathlib.Core.Bool.{Bool, true, _&&_}
@@ -8,7 +7,8 @@ use Prim.Native.Nat.{ℕ, _≤_}
 use lib.Dec.{T, eqb, leb}
 use lib.ListN.{length}
 use Rattle.spec.specs.Grammar.Languages.{ascii}
-use Rattle.spec.specs.Grammar.Characters.{xml-char}
+use Rattle.spec.specs.Grammar.Characters.{xml-char, Text}
+use Rattle.spec.specs.Grammar.Doctype.{doctypedecl}
 use Rattle.spec.specs.Grammar.References.{digit-value, value-on}
 use Rattle.spec.specs.Grammar.AppendixB.{in-table, start-char, part-char, appendix-B}
 use Rattle.spec.specs.Grammar.Literals.{pubid-char}
@@ -88,69 +88,48 @@ use Rattle.spec.specs.Reading.Dtd.{
   check-doctype,
 }
 use Rattle.spec.specs.Reading.Checks.{all-of, is-version-num, valued, parse-eq-quoted, pseudo-attr, check-declaration}
-use Rattle.spec.specs.Promises.{Checks, Stops}
-use Rattle.spec.specs.Rows.{Subject, doctype, declaration, rule-of, grammar-of, Row, rows, Spot, spots}
-use Rattle.spec.proofs.Base.Tests.{and-left, and-right, eqb-true, leb-true}
+use Rattle.spec.specs.Premise.{bare, quiet}
+use Rattle.spec.specs.Promises.{Checks}
+use Rattle.spec.specs.Rows.{All, Subject, doctype, declaration, rule-of, grammar-of, Row, Numbered, rows, Spot, Met, spots}
+use Rattle.spec.specs.Conditions.{Sample, Sided, samples, Piece, Passed, pieces}
+use Rattle.spec.proofs.Base.Tables.{each, by-test}
+use Rattle.spec.proofs.Base.Tests.{true→T, alike, alike-same, and-left, and-right, and-both, eqb-true, eqb-yes, leb-true}
 use Rattle.spec.proofs.Agreement.Accepts.{Agrees, promise}
 use Rattle.spec.proofs.Characters.AppendixB.{appendix-B-ascii}
 use Rattle.spec.proofs.Checks.XmlDecl.{declaration-agrees}
+use Rattle.spec.proofs.Division.Covers.{covers, covered-yes, covered-derived, covered-covers}
+use Rattle.spec.proofs.Division.Divide.{kind-at, divide}
 use Rattle.spec.proofs.Dtd.Texts.{doctype-agrees}
+use Rattle.spec.proofs.Characters.Text.{all-ascii, ascii-text}
+use Rattle.spec.proofs.Prolog.MiscRead.{misc-test, misc-yes, misc-passes}
 use Rattle.spec.proofs.Inside.Checks.{Placed, doctype-placed, declaration-placed}
 
-abbrev pub bytes : Row → List ℕ
-bytes r = ascii (r .text)
-
--- what is said of a row, and of all of them
-pub record Right (r : Row) : Type 0 where
-  pub number : checked (rule-of (r .subject)) (bytes r) ≡ r .answer
-  pub grammar : (r .answer ≡ 0) ↔ grammar-of (r .subject) (bytes r)
-
--- what is said of a text in two pieces
-abbrev whole : Spot → List ℕ
-whole s = ascii (s .read-well) ++ ascii (s .from-there)
-
-abbrev pub Met : Spot → Type 0
-Met s = Stops (rule-of (s .subject)) (whole s) (s .answer) (length (ascii (s .read-well)))
-
-abbrev pub All : {A : Type 0} → (A → Type 0) → List A → Type 0
-All P [] = T true
-All P (r ∷ rs) = P r × All P rs
-
-has-place : (x : Subject) → Placed (rule-of x)
-has-place doctype = doctype-placed appendix-B
-has-place declaration = declaration-placed
-
+-- numbers
 agrees : (x : Subject) → Agrees (rule-of x) (grammar-of x)
 agrees doctype = doctype-agrees appendix-B appendix-B-ascii
 agrees declaration = declaration-agrees
 
-right : (r : Row) → checked (rule-of (r .subject)) (bytes r) ≡ r .answer → length (bytes r) ≤ limit → Right r
-right r e h =
-    let rule : Reader = rule-of (r .subject) in
-    let p : Checks rule (grammar-of (r .subject)) (bytes r) (checked rule (bytes r)) = promise (agrees (r .subject)) (bytes r) (checked rule (bytes r)) refl in
-    record { number = e; grammar = (λ z. p .grammar .0 (e ∙ z) .1, λ l. sym e ∙ p .grammar .1 (h, l)) }
-
--- by computing each number
 abbrev given : Row → Bool
-given r = eqb (checked (rule-of (r .subject)) (bytes r)) (r .answer)
+given r = eqb (checked (rule-of (r .subject)) (ascii (r .text))) (r .answer)
 
-abbrev computed : List Row → Bool
-computed [] = true
-computed (r ∷ rs) = (given r && leb (length (bytes r)) limit) && computed rs
+numbers : (r : Row) → given r ≡ true → Numbered r
+numbers r t =
+    let rule : Reader = rule-of (r .subject) in
+    let w : List ℕ = ascii (r .text) in
+    let e : checked rule w ≡ r .answer = eqb-true (checked rule w) (r .answer) t in
+    let p : Checks rule (grammar-of (r .subject)) w (checked rule w) = promise (agrees (r .subject)) w (checked rule w) refl in
+    record { number = e; grammar = (λ z. p .grammar .0 (e ∙ z), λ l. sym e ∙ p .grammar .1 l) }
 
-all-right : (rs : List Row) → computed rs ≡ true → All Right rs
-all-right [] e = tt
-all-right (r ∷ rs) e =
-    let u : Bool = leb (length (bytes r)) limit in
-    let f : (given r && u) ≡ true = and-left (given r && u) (computed rs) e in
-    (right r (eqb-true (checked (rule-of (r .subject)) (bytes r)) (r .answer) (and-left (given r) u f)) (leb-true (length (bytes r)) limit (and-right (given r) u f)), all-right rs (and-right (given r && u) (computed rs) e))
+-- places
+has-place : (x : Subject) → Placed (rule-of x)
+has-place doctype = doctype-placed appendix-B
+has-place declaration = declaration-placed
+
+abbrev whole : Spot → List ℕ
+whole s = ascii (s .read-well) ++ ascii (s .from-there)
 
 abbrev met : Spot → Bool
 met s = eqb (s .answer) (checked (rule-of (s .subject)) (whole s)) && eqb (length (ascii (s .read-well))) (checked-at (rule-of (s .subject)) (whole s))
-
-abbrev all-met : List Spot → Bool
-all-met [] = true
-all-met (s ∷ ss) = met s && all-met ss
 
 meets : (s : Spot) → met s ≡ true → Met s
 meets s e =
@@ -160,22 +139,73 @@ meets s e =
     (eqb-true (s .answer) (checked (rule-of (s .subject)) (whole s)) (and-left t u e))
     (eqb-true (length (ascii (s .read-well))) (checked-at (rule-of (s .subject)) (whole s)) (and-right t u e))
 
-meet-all : (ss : List Spot) → all-met ss ≡ true → All Met ss
-meet-all [] e = tt
-meet-all (s ∷ ss) e = (meets s (and-left (met s) (all-met ss) e), meet-all ss (and-right (met s) (all-met ss) e))
+-- demand 3's premise: whether the text is derived, and whether its entries meet it
+abbrev derives : Sample → Bool
+derives s = eqb (checked (check-doctype appendix-B) (ascii (s .text))) 0
 
-all-computed : (computed rows && all-met spots) ≡ true
+abbrev sided : Sample → Bool
+sided s = (leb (length (ascii (s .text))) limit && alike (derives s) (s .derived)) && alike (s .derived && covers appendix-B (ascii (s .text))) (s .covered)
+
+sides : (s : Sample) → sided s ≡ true → Sided s
+sides s t =
+    let w : List ℕ = ascii (s .text) in
+    let b : Bool = leb (length w) limit in
+    let c : Bool = alike (derives s) (s .derived) in
+    let d : Bool = alike (s .derived && covers appendix-B w) (s .covered) in
+    let f : (b && c) ≡ true = and-left (b && c) d t in
+    let short : length w ≤ limit = leb-true (length w) limit (and-left b c f) in
+    let told : derives s ≡ s .derived = alike-same (derives s) (s .derived) (and-right b c f) in
+    let said : (s .derived && covers appendix-B w) ≡ s .covered = alike-same (s .derived && covers appendix-B w) (s .covered) (and-right (b && c) d t) in
+    let p : Checks (check-doctype appendix-B) (doctypedecl appendix-B) w (checked (check-doctype appendix-B) w) = promise (agrees doctype) w (checked (check-doctype appendix-B) w) refl in
+    let yes : s .derived ≡ true → doctypedecl appendix-B w = λ z. p .grammar .0 (eqb-true (checked (check-doctype appendix-B) w) 0 (told ∙ z)) .1 in
+    let back : doctypedecl appendix-B w → s .derived ≡ true = λ l. sym told ∙ eqb-yes (checked (check-doctype appendix-B) w) 0 (p .grammar .1 (short, l)) in
+    record {
+      grammar = (yes, back);
+      premise = (
+        λ z. covered-yes appendix-B appendix-B-ascii w (yes (and-left (s .derived) (covers appendix-B w) (said ∙ z))) (and-right (s .derived) (covers appendix-B w) (said ∙ z)),
+        λ k. sym said ∙ and-both (s .derived) (covers appendix-B w) (back (covered-derived appendix-B appendix-B-ascii w k)) (covered-covers appendix-B appendix-B-ascii w k),
+      );
+    }
+
+-- what stands before a DOCTYPE
+abbrev passed : Piece → Bool
+passed p = all-ascii (ascii (p .text)) && alike (misc-test appendix-B (ascii (p .text))) (p .misc)
+
+passes : (p : Piece) → passed p ≡ true → Passed p
+unfolding Text
+passes p t =
+    let w : List ℕ = ascii (p .text) in
+    let b : Bool = alike (misc-test appendix-B w) (p .misc) in
+    let e : misc-test appendix-B w ≡ p .misc = alike-same (misc-test appendix-B w) (p .misc) (and-right (all-ascii w) b t) in (
+      λ z. misc-yes appendix-B appendix-B-ascii w (ascii-text w (true→T (all-ascii w) (and-left (all-ascii w) b t))) (e ∙ z),
+      λ l. sym e ∙ misc-passes appendix-B appendix-B-ascii w l,
+    )
+
+-- The tables whose tests read a text: one computation of them all, so that what it looks into stands once.
+all-computed : ((each given rows && each met spots) && (each sided samples && each passed pieces)) ≡ true
 unfolding
     in-table start-char part-char decode4 decode1 xml-char pubid-char digit-value value-on _>>_ nothing refuse as-one refuse-at at-end starts choose on word-of run while while-fuel
     some-left throughout required a-byte begins char contains before up-to utf8 admit checked checked-at reference char-ref ref-or-byte check-char-refs parts name check-name
     skip-s require-s parse-quoted check-pubid parse-external-id check-att-value check-comment parse-comment outside take-decl-body reserved after connector connected group-of
     occurs bar-list word-among parse-default-decl on-quote second-literal nmtoken ncname parse-pe-reference has-pe-reference check-target check-pi parse-pi parse-mixed
     cp-of parse-group parse-children parse-contentspec parse-element-decl parse-att-type parse-att-def parse-attlist-decl ndata parse-entity-decl parse-notation-decl
-    finish-decl parse-markup-decl subset-fuel parse-internal-subset check-doctype all-of is-version-num valued parse-eq-quoted pseudo-attr check-declaration
+    finish-decl parse-markup-decl subset-fuel parse-internal-subset check-doctype kind-at divide bare quiet all-of is-version-num valued parse-eq-quoted pseudo-attr check-declaration
 all-computed = refl
 
-pub rows-right : All Right rows
-rows-right = all-right rows (and-left (computed rows) (all-met spots) all-computed)
+abbrev numbered-and-met : Bool
+numbered-and-met = each given rows && each met spots
+
+abbrev sided-and-passed : Bool
+sided-and-passed = each sided samples && each passed pieces
+
+pub rows-numbered : All Numbered rows
+rows-numbered = by-test given numbers rows (and-left (each given rows) (each met spots) (and-left numbered-and-met sided-and-passed all-computed))
 
 pub spots-met : All Met spots
-spots-met = meet-all spots (and-right (computed rows) (all-met spots) all-computed)
+spots-met = by-test met meets spots (and-right (each given rows) (each met spots) (and-left numbered-and-met sided-and-passed all-computed))
+
+pub samples-sided : All Sided samples
+samples-sided = by-test sided sides samples (and-left (each sided samples) (each passed pieces) (and-right numbered-and-met sided-and-passed all-computed))
+
+pub pieces-passed : All Passed pieces
+pieces-passed = by-test passed passes pieces (and-right (each sided samples) (each passed pieces) (and-right numbered-and-met sided-and-passed all-computed))

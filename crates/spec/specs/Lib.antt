@@ -4,3 +4,4 @@ pub mod Reading
 pub mod Premise
 pub mod Promises
 pub mod Rows
+pub mod Conditions

@@ -1,14 +1,27 @@
--- Document 01's sixteen texts and their numbers; and texts with the places at which they are refused. Assumes nothing.
-use mathlib.Core.List.{List, [], _∷_}
+-- Two tables of texts, with what is said of each row: document 01's sixteen texts and their numbers, and texts with the places at which
+-- they are refused. That it holds of every row is a theorem on the page of demands. Assumes nothing.
+use mathlib.Core.List.{List, [], _∷_, _++_}
+use mathlib.Core.Bool.{true}
+use mathlib.Core.Logic.{_↔_}
+use mathlib.Core.Path.{_≡_}
 use Prim.Native.Nat.{ℕ}
 use Prim.Native.String.{String}
+use lib.Dec.{T}
+use lib.ListN.{length}
 use Rattle.spec.specs.Grammar.AppendixB.{appendix-B}
 use Rattle.spec.specs.Grammar.Doctype.{doctypedecl}
-use Rattle.spec.specs.Grammar.Languages.{Lang}
+use Rattle.spec.specs.Grammar.Languages.{Lang, ascii}
 use Rattle.spec.specs.Grammar.XmlDecl.{XMLDecl}
+use Rattle.spec.specs.Promises.{Accepted, Stops}
 use Rattle.spec.specs.Reading.Checks.{check-declaration}
 use Rattle.spec.specs.Reading.Dtd.{check-doctype}
 use Rattle.spec.specs.Reading.Readers.{Reader}
+use Rattle.spec.specs.Reading.Source.{checked}
+
+-- it holds of every row
+abbrev pub All : {A : Type 0} → (A → Type 0) → List A → Type 0
+All P [] = T true
+All P (r ∷ rs) = P r × All P rs
 
 -- what a text is read as: the order of reading, and the grammar
 pub data Subject : Type 0 where
@@ -30,6 +43,11 @@ pub record Row : Type 0 where
 abbrev pub row : Subject → String → ℕ → Row
 row x s n = record { subject = x; text = s; answer = n }
 
+-- the order of reading gives the number, and the grammar derives the text, which may be looked at, exactly when that is 0
+pub record Numbered (r : Row) : Type 0 where
+  pub number : checked (rule-of (r .subject)) (ascii (r .text)) ≡ r .answer
+  pub grammar : (r .answer ≡ 0) ↔ Accepted (grammar-of (r .subject)) (ascii (r .text))
+
 abbrev pub rows : List Row
 rows =
     row doctype "" 4
@@ -50,7 +68,7 @@ rows =
     ∷ row declaration "xml version=\"1.0\"encoding=\"u\"" 3
     ∷ []
 
--- A text in two pieces: it is refused where the second begins.
+-- A text in two pieces.
 pub record Spot : Type 0 where
   pub subject : Subject
   pub read-well : String
@@ -59,6 +77,10 @@ pub record Spot : Type 0 where
 
 abbrev pub spot : Subject → String → String → ℕ → Spot
 spot x s t n = record { subject = x; read-well = s; from-there = t; answer = n }
+
+-- it is refused with its number where the second begins
+abbrev pub Met : Spot → Type 0
+Met s = Stops (rule-of (s .subject)) (ascii (s .read-well) ++ ascii (s .from-there)) (s .answer) (length (ascii (s .read-well)))
 
 abbrev pub spots : List Spot
 spots =

@@ -10,7 +10,7 @@ use borrow.Author.Tests.{eqb-false}
 use lib.Dec.{T, ltb, eqb}
 use Rattle.spec.specs.Basics.{pick}
 use Rattle.spec.specs.Grammar.Languages.{any}
-use Rattle.spec.proofs.Base.Tests.{T→true, true→T, decide, leb-yes, leb-true, eqb-true, and-left, and-right, or-cases}
+use Rattle.spec.proofs.Base.Tests.{T→true, true→T, decide, leb-yes, leb-true, eqb-true, and-left, and-right, and-both, or-cases}
 
 -- The sign that a text begins with: an ASCII byte, 128 for any other byte, 129 at the text's end. A class is a test of signs.
 unfoldable pub kind : List ℕ → ℕ
@@ -33,6 +33,10 @@ below-at zero f e k h = absurd (let z : k < 0 = h in omega arith)
 below-at (suc n) f e k h =
     ⊎-elim (λ x. ap f (eqb-true k n x) ∙ and-left (f n) (below n f) e)
     (λ x. let y : k ≡ n → ⊥ = eqb-false k n x in below-at n f (and-right (f n) (below n f) e) k (omega arith)) (decide (eqb k n))
+
+pub at-below : (n : ℕ) (f : Class) → ((k : ℕ) → k < n → f k ≡ true) → below n f ≡ true
+at-below zero f h = refl
+at-below (suc n) f h = and-both (f n) (below n f) (h n (omega arith)) (at-below n f (λ k l. h k (omega arith)))
 
 kind-below : (v : List ℕ) → kind v < 130
 unfolding kind

@@ -12,11 +12,10 @@ use Rattle.spec.specs.Grammar.ContentModels.{contentspec, Mixed, choice,
 use Rattle.spec.specs.Grammar.Declarations.{Delimited, element-body}
 use Rattle.spec.specs.Grammar.Languages.{Lang, lit, ascii, Ch, _·_, _∣_, inl, inr, Star, end, more, one-of, none-of}
 use Rattle.spec.specs.Grammar.Literals.{SystemLiteral}
-use Rattle.spec.specs.Grammar.Names.{Dialect, Name}
+use Rattle.spec.specs.Grammar.Names.{Dialect, Name, AsciiNames}
 use Rattle.spec.proofs.Agreement.Algebra.{ε}
 use Rattle.spec.proofs.Base.Tests.{T→true, true→T, eqb-no, and-left, and-right, leb-true, none-sub, not-true}
 use Rattle.spec.proofs.Characters.Text.{star-append, star-one, star-map, ascii-char, reclass, star-bind}
-use Rattle.spec.proofs.Wellformed.Names.{AsciiNames}
 
 -- Languages whose texts have quotes in pairs, and no angle bracket and no square bracket outside them
 abbrev pub Tame : Lang

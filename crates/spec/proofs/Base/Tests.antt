@@ -68,6 +68,9 @@ pub and-right : (a b : Bool) → (a && b) ≡ true → b ≡ true
 and-right true b e = e
 and-right false b e = absurd (true≢false (sym e))
 
+pub and-both : (a b : Bool) → a ≡ true → b ≡ true → (a && b) ≡ true
+and-both a b e f = rw (e, f)
+
 pub both-left : (a b : Bool) → T (a && b) → T a
 both-left true b t = tt
 both-left false b t = absurd t
@@ -122,6 +125,11 @@ alike-same true true e = refl
 alike-same true false e = sym e
 alike-same false true e = e
 alike-same false false e = refl
+
+pub same-alike : (a b : Bool) → a ≡ b → alike a b ≡ true
+same-alike true b e = sym e
+same-alike false true e = absurd (true≢false (sym e))
+same-alike false false e = refl
 
 -- a sign of a word of one, and of two
 pub one-sign : (a b : ℕ) → among (a ∷ []) b ≡ true → b ≡ a

@@ -1,24 +1,42 @@
 -- Appendix B's tables ascend, and its classes have XML's ASCII part, by computed tests. Assumes nothing.
-use mathlib.Core.Bool.{true}
+use mathlib.Core.Bool.{Bool, true, _&&_}
 use mathlib.Core.Path.{_≡_, refl}
+use Prim.Native.Nat.{ℕ}
 use Rattle.spec.specs.Grammar.AppendixB.{base-chars, ideographs, combining, digits, extenders, in-table, ascending, start-char, part-char, appendix-B}
-use Rattle.spec.proofs.Agreement.Signs.{below, below-at}
-use Rattle.spec.proofs.Base.Tests.{alike, alike-same}
-use Rattle.spec.proofs.Wellformed.Names.{AsciiNames, start-sign, part-sign}
+use Rattle.spec.specs.Grammar.Names.{Dialect, AsciiNames, start-sign, part-sign}
+use Rattle.spec.proofs.Agreement.Signs.{below, below-at, at-below}
+use Rattle.spec.proofs.Base.Tests.{alike, alike-same, same-alike, and-left, and-right, and-both}
 
-starts-alike : below 128 (λ c. alike (start-char c) (start-sign c)) ≡ true
-unfolding in-table start-char
-starts-alike = refl
+-- whether two classes have the same characters below 128
+abbrev same-below : (ℕ → Bool) → (ℕ → Bool) → Bool
+same-below p q = below 128 (λ c. alike (p c) (q c))
 
-parts-alike : below 128 (λ c. alike (part-char c) (part-sign c)) ≡ true
-unfolding in-table start-char part-char
-parts-alike = refl
+-- whether name classes have XML's ASCII part
+abbrev pub ascii-test : (ℕ → Bool) → (ℕ → Bool) → Bool
+ascii-test start part = same-below start start-sign && same-below part part-sign
+
+module _ (D : Dialect) where
+  abbrev starts : Bool
+  starts = same-below (D .start) start-sign
+
+  abbrev parts : Bool
+  parts = same-below (D .part) part-sign
+
+  pub ascii-names : ascii-test (D .start) (D .part) ≡ true → AsciiNames D
+  ascii-names e = record {
+    start-ascii = λ c h. alike-same (D .start c) (start-sign c) (below-at 128 (λ c. alike (D .start c) (start-sign c)) (and-left starts parts e) c h);
+    part-ascii = λ c h. alike-same (D .part c) (part-sign c) (below-at 128 (λ c. alike (D .part c) (part-sign c)) (and-right starts parts e) c h);
+  }
+
+  pub ascii-passes : AsciiNames D → ascii-test (D .start) (D .part) ≡ true
+  ascii-passes A =
+      and-both starts parts
+      (at-below 128 (λ c. alike (D .start c) (start-sign c)) (λ c h. same-alike (D .start c) (start-sign c) (A .start-ascii c h)))
+      (at-below 128 (λ c. alike (D .part c) (part-sign c)) (λ c h. same-alike (D .part c) (part-sign c) (A .part-ascii c h)))
 
 pub appendix-B-ascii : AsciiNames appendix-B
-appendix-B-ascii = record {
-  start-ascii = λ c h. alike-same (start-char c) (start-sign c) (below-at 128 (λ c. alike (start-char c) (start-sign c)) starts-alike c h);
-  part-ascii = λ c h. alike-same (part-char c) (part-sign c) (below-at 128 (λ c. alike (part-char c) (part-sign c)) parts-alike c h);
-}
+unfolding in-table start-char part-char
+appendix-B-ascii = ascii-names appendix-B refl
 
 -- each table's ranges ascend and do not overlap: one computed test
 pub tables-ascend : (ascending base-chars ≡ true) × (ascending ideographs ≡ true) × (ascending combining ≡ true) × (ascending digits ≡ true) × (ascending extenders ≡ true)

@@ -5,7 +5,7 @@ use mathlib.Core.List.{List, [], _∷_}
 use Prim.Native.Nat.{ℕ}
 use lib.Dec.{eqb}
 use Rattle.spec.specs.Grammar.Characters.{Text}
-use Rattle.spec.specs.Grammar.Names.{Dialect, NCName}
+use Rattle.spec.specs.Grammar.Names.{Dialect, NCName, AsciiNames}
 use Rattle.spec.specs.Reading.Checks.{is-ncname}
 use Rattle.spec.specs.Reading.Readers.{number-of, contains}
 use Rattle.spec.specs.Reading.Wellformed.{check-name}
@@ -14,7 +14,6 @@ use Rattle.spec.proofs.Agreement.Holds.{free-holds}
 use Rattle.spec.proofs.Base.Tests.{eqb-true, and-left, and-right, not-true}
 use Rattle.spec.proofs.Dtd.Notations.{no-colon}
 use Rattle.spec.proofs.Wellformed.Checks.{name-agrees}
-use Rattle.spec.proofs.Wellformed.Names.{AsciiNames}
 
 pub ncname-decides : (D : Dialect) → AsciiNames D → Decides (is-ncname D) (NCName D)
 unfolding is-ncname NCName

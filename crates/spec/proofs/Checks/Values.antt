@@ -9,10 +9,10 @@ use native.Mathlib.Omega.{arith}
 use lib.Dec.{T, eqb, ltb}
 use lib.ListN.{length, drop, length-append, drop-of-length-le}
 use Rattle.spec.specs.Basics.{within}
-use Rattle.spec.specs.Grammar.Characters.{Text}
+use Rattle.spec.specs.Grammar.Characters.{Text, latin-letter}
 use Rattle.spec.specs.Grammar.Languages.{Lang, lit, ascii, Ch, _·_, _∣_, inl, inr, Star, Plus, any, one-of}
 use Rattle.spec.specs.Grammar.References.{digit}
-use Rattle.spec.specs.Grammar.XmlDecl.{VersionNum, latin-letter, enc-char, EncName}
+use Rattle.spec.specs.Grammar.XmlDecl.{VersionNum, enc-char, EncName}
 use Rattle.spec.specs.Reading.Checks.{all-of, is-version-num, is-enc-name, is-yes-or-no}
 use Rattle.spec.specs.Reading.Readers.{starts, run}
 use Rattle.spec.proofs.Agreement.Accepts.{Decides}

@@ -14,7 +14,7 @@ use Rattle.spec.specs.Grammar.Declarations.{PI, Comment, Delimited, Unre
 use Rattle.spec.specs.Grammar.Division.{Kind, element, attlist, entity, notation, instruction, comment, reference, entry-of, Front}
 use Rattle.spec.specs.Grammar.Languages.{Lang, lit, ascii, Ch, _·_, _∣_, inl, inr, Star, end, more, one-of, none-of}
 use Rattle.spec.specs.Grammar.Literals.{SystemLiteral}
-use Rattle.spec.specs.Grammar.Names.{Dialect, PEReference}
+use Rattle.spec.specs.Grammar.Names.{Dialect, PEReference, AsciiNames}
 use Rattle.spec.specs.Premise.{quiet, bare, premised}
 use Rattle.spec.specs.Reading.Dtd.{has-pe-reference}
 use Rattle.spec.specs.Reading.Readers.{starts, contains, before}
@@ -32,7 +32,6 @@ use Rattle.spec.proofs.Division.Quoting.{paired, quoting}
 use Rattle.spec.proofs.Dtd.Bodies.{del, delimited-del, refers-complete}
 use Rattle.spec.proofs.Dtd.Comments.{twice, first-close, Shaped, shape}
 use Rattle.spec.proofs.Dtd.Tame.{within-external, within-attlist, within-entity, within-notation}
-use Rattle.spec.proofs.Wellformed.Names.{AsciiNames}
 
 abbrev pub Clear : (List ℕ → Place) → List ℕ → Type 0
 Clear f x = (r : List ℕ) → f (x ++ r) ≡ later (length x) (f r)

@@ -9,7 +9,7 @@ use lib.ListN.{length, drop, length-append}
 use lib.Seq.{drop-append-seam, drop-at}
 use Rattle.spec.specs.Grammar.Characters.{S?, space}
 use Rattle.spec.specs.Grammar.Division.{Kind, Entry, refers, entry-of}
-use Rattle.spec.specs.Grammar.Names.{Dialect}
+use Rattle.spec.specs.Grammar.Names.{Dialect, AsciiNames}
 use Rattle.spec.specs.Reading.Dtd.{skip-s, parse-markup-decl}
 use Rattle.spec.specs.Reading.Readers.{word-of, err, _>>_, starts, choose, on, run, past}
 use Rattle.spec.specs.Reading.Refusals.{unexpected}
@@ -19,7 +19,6 @@ use Rattle.spec.proofs.Base.Results.{ok-inj}
 use Rattle.spec.proofs.Division.Divide.{one-entry, listed, divide}
 use Rattle.spec.proofs.Division.Parting.{kind-is, entry-taken, entry-leads, entry-no-space, close-no-space}
 use Rattle.spec.proofs.Division.Parts.{Filling, last, next, entries, Parts, list-of}
-use Rattle.spec.proofs.Wellformed.Names.{AsciiNames}
 
 spaces-run : (s v : List ℕ) → S? s → T (not-space (kind v)) → run space (s ++ v) ≡ length s
 unfolding skip-s

@@ -17,7 +17,7 @@ use Rattle.spec.specs.Grammar.Declarations.{PI, Comment, markupdecl}
 use Rattle.spec.specs.Grammar.Division.{Kind, element, attlist, entity, notation, instruction, comment, reference, refers, entry-of, Front}
 use Rattle.spec.specs.Grammar.Doctype.{intSubset, doctypedecl}
 use Rattle.spec.specs.Grammar.Languages.{Lang, lit, ascii, _·_, _∣_, inl, inr, Opt, any}
-use Rattle.spec.specs.Grammar.Names.{Dialect, PEReference}
+use Rattle.spec.specs.Grammar.Names.{Dialect, PEReference, AsciiNames}
 use Rattle.spec.specs.Reading.Dtd.{skip-s, parse-pe-reference, parse-markup-decl}
 use Rattle.spec.specs.Reading.Readers.{ok, Reader, starts, on, past}
 use Rattle.spec.specs.Reading.Places.{at, outside}
@@ -35,7 +35,6 @@ use Rattle.spec.proofs.Base.Outside.{at-inj}
 use Rattle.spec.proofs.Division.Parts.{Filling, last, next, entries, Parts, Divided-parts, One-parts}
 use Rattle.spec.proofs.Division.Scans.{found-after}
 use Rattle.spec.proofs.Dtd.Markup.{markup-reads}
-use Rattle.spec.proofs.Wellformed.Names.{AsciiNames}
 
 -- parts of one length, at the front of one text
 same-length : (x y v w : List ℕ) → length x ≡ length y → x ++ v ≡ y ++ w → (x ≡ y) × (v ≡ w)

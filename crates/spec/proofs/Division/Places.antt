@@ -10,11 +10,11 @@ use lib.ListN.{length, take, drop, length-append, length-drop, take-append-drop}
 use lib.Seq.{slice, length-slice, length-take-le, take-add, take-append-seam, drop-append-le, drop-append-seam, drop-at, drop-drop}
 use Rattle.spec.specs.Grammar.Characters.{S?}
 use Rattle.spec.specs.Grammar.Division.{Entry, refers, entry-of, Front, Fills, Division}
-use Rattle.spec.specs.Grammar.Names.{Dialect}
+use Rattle.spec.specs.Grammar.Names.{Dialect, AsciiNames}
 use Rattle.spec.specs.Premise.{promised, bare, premised, premise}
 use Rattle.spec.specs.Reading.Readers.{past}
 use Rattle.spec.specs.Grammar.Doctype.{doctypedecl}
-use Rattle.spec.specs.Reading.Places.{outside}
+use Rattle.spec.specs.Reading.Places.{at, nowhere, outside}
 use Rattle.spec.specs.Reading.Scan.{scan, subset-open}
 use Rattle.spec.proofs.Division.Clear.{clear-front}
 use Rattle.spec.proofs.Division.Divide.{divide}
@@ -24,7 +24,6 @@ use Rattle.spec.proofs.Division.Parting.{divided-parts, one-parts}
 use Rattle.spec.proofs.Division.Parts.{Filling, last, next, entries, Parts, open-at, close-at, list-of, Premise, Cuts-parts}
 use Rattle.spec.proofs.Division.Quoting.{quoting}
 use Rattle.spec.proofs.Division.Scans.{found-after, found-none, cuts-parts, cuts-parts-quoting}
-use Rattle.spec.proofs.Wellformed.Names.{AsciiNames}
 
 -- what the scan says at each cut of a text with a division, where instructions pass the test
 abbrev pub Cuts : Dialect → (List ℕ → Bool) → Type 0
@@ -204,13 +203,20 @@ module _ (D : Dialect) (A : AsciiNames D) where
     λ x. divided-parts D A w .1 (⊎-elim (λ f. inl f) (λ v. inr (parts-of v .parts)) x),
   )
 
-  pub apart : (w : List ℕ) → Front D w → Division D w → ⊥
+  -- the first '[' outside quotes is the subset's; without a subset there is none
+  pub unopened : (w : List ℕ) → Front D w → subset-open w ≡ nowhere
   unfolding outside
-  apart w f v =
-      let d : Parts D w = parts-of v .parts in
-      nowhere-at (length (d .front))
-      (sym (found-none subset-open w (clear-front D A w f) refl)
-      ∙ ap subset-open (d .split) ∙ found-after subset-open (d .front) (91 ∷ (d .inner ++ (93 ∷ d .back))) (clear-front D A (d .front) (d .heads)) refl)
+  unopened w f = found-none subset-open w (clear-front D A w f) refl
+
+  pub opened : (w : List ℕ) (v : Division D w) → subset-open w ≡ at (v .opening)
+  unfolding outside
+  opened w v =
+      let m : Same v = parts-of v in
+      let d : Parts D w = m .parts in
+      ap subset-open (d .split) ∙ found-after subset-open (d .front) (91 ∷ (d .inner ++ (93 ∷ d .back))) (clear-front D A (d .front) (d .heads)) refl ∙ ap at (m .opening)
+
+  pub apart : (w : List ℕ) → Front D w → Division D w → ⊥
+  apart w f v = nowhere-at (v .opening) (sym (unopened w f) ∙ opened w v)
 
   pub one-division : (w : List ℕ) (a b : Division D w) → (a .entries ≡ b .entries) × (a .opening ≡ b .opening) × (a .closing ≡ b .closing)
   one-division w u v =

@@ -5,13 +5,12 @@ use Prim.Native.Nat.{ℕ}
 use lib.ListN.{take}
 use Rattle.spec.specs.Grammar.Characters.{Text}
 use Rattle.spec.specs.Grammar.Doctype.{doctypedecl}
-use Rattle.spec.specs.Grammar.Names.{Dialect}
+use Rattle.spec.specs.Grammar.Names.{Dialect, AsciiNames}
 use Rattle.spec.specs.Promises.{Accepted, Checks, ChecksDoctype, Covered, no-subset, has-subset, expected, Cuts}
 use Rattle.spec.specs.Reading.Dtd.{check-doctype}
 use Rattle.spec.specs.Reading.Scan.{Scan, scan}
 use Rattle.spec.proofs.Division.Places.{divided, apart, one-division, cuts}
 use Rattle.spec.proofs.Division.Scans.{cuts-without}
-use Rattle.spec.proofs.Wellformed.Names.{AsciiNames}
 
 module _ (D : Dialect) (A : AsciiNames D) where
   -- a check of the DOCTYPE keeps the promise of the division

@@ -10,7 +10,7 @@ use lib.ListN.{length, take, drop, length-append}
 use lib.Seq.{take-append-add, drop-at}
 use Rattle.spec.specs.Basics.{pick}
 use Rattle.spec.specs.Grammar.Division.{Front, Kind, element, attlist, entity, notation, instruction, comment, reference}
-use Rattle.spec.specs.Grammar.Names.{Dialect}
+use Rattle.spec.specs.Grammar.Names.{Dialect, AsciiNames}
 use Rattle.spec.specs.Premise.{bare, premised, promised, quiet}
 use Rattle.spec.specs.Grammar.Languages.{one-of}
 use Rattle.spec.specs.Reading.Places.{Place, at, nowhere, later, outside}
@@ -20,7 +20,6 @@ use Rattle.spec.proofs.Division.Clear.{Clear, clear-front, clear-fillin
 use Rattle.spec.proofs.Division.FrontParts.{cut-off, outside-cut, end-cut}
 use Rattle.spec.proofs.Division.Parts.{Filling, last, next, Premise, Cuts-parts}
 use Rattle.spec.proofs.Division.Quoting.{quoting, paired}
-use Rattle.spec.proofs.Wellformed.Names.{AsciiNames}
 
 -- where the scan passes a part, it finds what stands next
 pub found-after : (f : List ℕ → Place) (x r : List ℕ) → Clear f x → f r ≡ at 0 → f (x ++ r) ≡ at (length x)

@@ -13,7 +13,7 @@ use Rattle.spec.specs.Grammar.Characters.{S, S?, space}
 use Rattle.spec.specs.Grammar.Declarations.{listed, AttType, DefaultDecl, AttDef, attlist-body}
 use Rattle.spec.specs.Grammar.Languages.{Lang, lit, ascii, _·_, _∣_, inl, inr, Star, Opt, any, one-of}
 use Rattle.spec.specs.Grammar.Literals.{AttValue}
-use Rattle.spec.specs.Grammar.Names.{Dialect, Name, Nmtoken}
+use Rattle.spec.specs.Grammar.Names.{Dialect, Name, Nmtoken, AsciiNames}
 use Rattle.spec.specs.Reading.Dtd.{skip-s, require-s, parse-quoted, check-att-value, nmtoken, after, bar-list, tokenized, word-among, parse-att-type, parse-default-decl, parse-att-def, parse-attlist-decl}
 use Rattle.spec.specs.Reading.Readers.{ok, Reader, _>>_, nothing, refuse, starts, on, word, run, while, required}
 use Rattle.spec.specs.Reading.Refusals.{no-space, unexpected}
@@ -33,7 +33,7 @@ use Rattle.spec.proofs.Base.Tests.{true→T, leb-yes, leb-no, leb-false
 use Rattle.spec.proofs.Characters.Text.{cat-size}
 use Rattle.spec.proofs.Dtd.Literals.{quote-first}
 use Rattle.spec.proofs.Dtd.Values.{att-value-reads}
-use Rattle.spec.proofs.Wellformed.Names.{AsciiNames, start-first, part-first, name-reads, nmtoken-reads}
+use Rattle.spec.proofs.Wellformed.Names.{start-first, part-first, name-reads, nmtoken-reads}
 
 -- a table of words, tried in order: no word begins a later word that is followed by a sign of p, nor what else there is
 abbrev Words : List String → Lang → Lang

@@ -12,7 +12,7 @@ use Rattle.spec.specs.Grammar.Characters.{S?, space}
 use Rattle.spec.specs.Grammar.ContentModels.{Mixed, choice, sequence, occurrence, cp, Group, children, contentspec}
 use Rattle.spec.specs.Grammar.Declarations.{element-body}
 use Rattle.spec.specs.Grammar.Languages.{Lang, lit, ascii, _·_, _∣_, inl, inr, Star, Plus, Opt, any, one-of}
-use Rattle.spec.specs.Grammar.Names.{Dialect, Name}
+use Rattle.spec.specs.Grammar.Names.{Dialect, Name, AsciiNames}
 use Rattle.spec.specs.Reading.Dtd.{skip-s, after, parse-mixed, connector, connected, group-of, occurs, cp-of, parse-group, parse-children, parse-contentspec, parse-element-decl}
 use Rattle.spec.specs.Reading.Readers.{Reader, _>>_, nothing, starts, on, word, run, while, begins}
 use Rattle.spec.specs.Reading.Refusals.{unexpected, trailing, bad-connector}
@@ -29,7 +29,7 @@ use Rattle.spec.proofs.Agreement.Words.{wd, first-of, plain, starts-sel
 use Rattle.spec.proofs.Base.Results.{one-add}
 use Rattle.spec.proofs.Base.Tests.{T→true, and-left, and-right, not-true}
 use Rattle.spec.proofs.Characters.Text.{cat-size, cat-before}
-use Rattle.spec.proofs.Wellformed.Names.{AsciiNames, start-first, name-reads}
+use Rattle.spec.proofs.Wellformed.Names.{start-first, name-reads}
 
 -- the signs after a particle, after a connector's particle and its white space, and before a particle
 abbrev pub after-cp : Class

@@ -13,7 +13,7 @@ use Rattle.spec.specs.Basics.{pick}
 use Rattle.spec.specs.Grammar.Characters.{Text, S, S?, space}
 use Rattle.spec.specs.Grammar.Languages.{Lang, lit, ascii, _·_, _∣_, inl, inr, Opt, any, one-of}
 use Rattle.spec.specs.Grammar.Literals.{ExternalID}
-use Rattle.spec.specs.Grammar.Names.{Dialect, Name}
+use Rattle.spec.specs.Grammar.Names.{Dialect, Name, AsciiNames}
 use Rattle.spec.specs.Reading.Dtd.{skip-s, parse-external-id, parse-markup-decl, parse-internal-subset, check-doctype}
 use Rattle.spec.specs.Reading.Readers.{ok, Reader, _>>_, nothing, at-end, starts, choose, on, word, while, begins, char}
 use Rattle.spec.specs.Reading.Refusals.{bad-name, unexpected, trailing}
@@ -34,7 +34,7 @@ use Rattle.spec.proofs.Characters.Text.{cat-before}
 use Rattle.spec.proofs.Characters.Utf8.{decode-1}
 use Rattle.spec.proofs.Dtd.Literals.{external-id-reads}
 use Rattle.spec.proofs.Dtd.Subset.{Written, subset-reads}
-use Rattle.spec.proofs.Wellformed.Names.{AsciiNames, ends-name, start-first, name-reads}
+use Rattle.spec.proofs.Wellformed.Names.{ends-name, start-first, name-reads}
 
 module _ (D : Dialect) where
   -- a name ends where no name character stands

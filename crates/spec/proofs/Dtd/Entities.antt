@@ -12,7 +12,7 @@ use Rattle.spec.specs.Grammar.Characters.{S, S?, space}
 use Rattle.spec.specs.Grammar.Declarations.{NDataDecl, entity-body}
 use Rattle.spec.specs.Grammar.Languages.{Lang, lit, ascii, _·_, _∣_, Opt, any, one-of}
 use Rattle.spec.specs.Grammar.Literals.{EntityValue, ExternalID}
-use Rattle.spec.specs.Grammar.Names.{Dialect, Name, NCName}
+use Rattle.spec.specs.Grammar.Names.{Dialect, Name, NCName, AsciiNames}
 use Rattle.spec.specs.Reading.Dtd.{require-s, on-quote, ndata, parse-entity-decl}
 use Rattle.spec.specs.Reading.Readers.{Reader, _>>_, starts, choose, on, word, run}
 use Rattle.spec.specs.Reading.Refusals.{unexpected, trailing}
@@ -28,7 +28,7 @@ use Rattle.spec.proofs.Base.Tests.{leb-yes}
 use Rattle.spec.proofs.Dtd.Literals.{quote-first, external-id-reads, at-quote}
 use Rattle.spec.proofs.Dtd.Notations.{ncname-reads}
 use Rattle.spec.proofs.Dtd.Values.{entity-value-reads}
-use Rattle.spec.proofs.Wellformed.Names.{AsciiNames, start-first, name-reads}
+use Rattle.spec.proofs.Wellformed.Names.{start-first, name-reads}
 
 -- r at either quote: one test for both
 on-quote-same : (r q : Reader) (w : List ℕ) → on-quote r q w ≡ choose (λ x. starts (ascii "\"") x || starts (ascii "'") x) r q w

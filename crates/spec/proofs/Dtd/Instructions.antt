@@ -14,7 +14,7 @@ use Rattle.spec.specs.Basics.{pick}
 use Rattle.spec.specs.Grammar.Characters.{Text, S, space}
 use Rattle.spec.specs.Grammar.Declarations.{PI}
 use Rattle.spec.specs.Grammar.Languages.{Lang, lit, ascii, Ch, _·_, inl, inr, Star, end, Plus, Opt, any, one-of, none-of, _∖_}
-use Rattle.spec.specs.Grammar.Names.{Dialect, Name, NCName, PITarget}
+use Rattle.spec.specs.Grammar.Names.{Dialect, Name, NCName, PITarget, AsciiNames, start-sign, part-sign}
 use Rattle.spec.specs.Reading.Dtd.{reserved, check-target, check-pi, parse-pi}
 use Rattle.spec.specs.Reading.Readers.{ok, err, run, contains, before}
 use Rattle.spec.specs.Reading.Refusals.{has-colon, unterminated, unexpected, reserved-target}
@@ -32,7 +32,7 @@ use Rattle.spec.proofs.Characters.Text.{text-rest, ascii-char, star-one
 use Rattle.spec.proofs.Characters.Utf8.{encode-1}
 use Rattle.spec.proofs.Agreement.Holds.{contains-avoid, contains-after, free-holds, holds-free, first-after, after-first}
 use Rattle.spec.proofs.Dtd.Notations.{no-colon}
-use Rattle.spec.proofs.Wellformed.Names.{AsciiNames, start-sign, part-sign, check-name-whole}
+use Rattle.spec.proofs.Wellformed.Names.{check-name-whole}
 
 -- what ends an instruction
 abbrev pub pi-close : List ℕ

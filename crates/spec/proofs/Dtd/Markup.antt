@@ -9,7 +9,7 @@ use lib.Dec.{T}
 use Rattle.spec.specs.Grammar.Declarations.{PI, Comment, element-body, attlist-body, entity-body, notation-body, markupdecl, declared}
 use Rattle.spec.specs.Grammar.Doctype.{intSubset, doctypedecl}
 use Rattle.spec.specs.Grammar.Languages.{Lang, lit, ascii, _·_, _∣_, inl, inr, any}
-use Rattle.spec.specs.Grammar.Names.{Dialect}
+use Rattle.spec.specs.Grammar.Names.{Dialect, AsciiNames}
 use Rattle.spec.specs.Reading.Dtd.{parse-element-decl, finish-decl, parse-markup-decl, check-doctype}
 use Rattle.spec.specs.Reading.Readers.{Reader, _>>_, starts, on, word}
 use Rattle.spec.specs.Reading.Refusals.{unexpected, trailing}
@@ -29,7 +29,6 @@ use Rattle.spec.proofs.Dtd.Entities.{entity-whole}
 use Rattle.spec.proofs.Dtd.Instructions.{pi-reads}
 use Rattle.spec.proofs.Dtd.Notations.{notation-whole}
 use Rattle.spec.proofs.Dtd.Tame.{within-attlist, within-entity, within-notation}
-use Rattle.spec.proofs.Wellformed.Names.{AsciiNames}
 
 -- a language that never begins with the word
 abbrev Never : String → Lang → Type 0

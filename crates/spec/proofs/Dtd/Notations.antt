@@ -12,7 +12,7 @@ use Rattle.spec.specs.Grammar.Characters.{Text, S, S?, space}
 use Rattle.spec.specs.Grammar.Declarations.{notation-body}
 use Rattle.spec.specs.Grammar.Languages.{lit, ascii, _·_, _∣_, Opt, one-of}
 use Rattle.spec.specs.Grammar.Literals.{SystemLiteral, PubidLiteral, ExternalID, PublicID}
-use Rattle.spec.specs.Grammar.Names.{Dialect, Name, NCName}
+use Rattle.spec.specs.Grammar.Names.{Dialect, Name, NCName, AsciiNames}
 use Rattle.spec.specs.Reading.Dtd.{require-s, parse-quoted, check-pubid, ncname, second-literal, parse-notation-decl}
 use Rattle.spec.specs.Reading.Readers.{ok, err, _>>_, nothing, starts, on, word, run, contains, before}
 use Rattle.spec.specs.Reading.Refusals.{has-colon, unexpected, trailing}
@@ -29,7 +29,7 @@ use Rattle.spec.proofs.Agreement.Texts.{texts-name}
 use Rattle.spec.proofs.Base.Results.{ok-inj, on-ok-ok, unless-refused}
 use Rattle.spec.proofs.Base.Tests.{leb-yes}
 use Rattle.spec.proofs.Dtd.Literals.{quote-first, system-literal-reads, pubid-literal-reads, at-quote}
-use Rattle.spec.proofs.Wellformed.Names.{AsciiNames, ends-name, start-first, name-reads}
+use Rattle.spec.proofs.Wellformed.Names.{ends-name, start-first, name-reads}
 
 module _ (D : Dialect) (A : AsciiNames D) where
   -- the test for a colon, on a name

@@ -8,7 +8,7 @@ use lib.Dec.{T}
 use lib.ListN.{length, length-append}
 use Rattle.spec.specs.Grammar.Characters.{S, S?}
 use Rattle.spec.specs.Grammar.Languages.{Lang, lit, ascii, _·_, _∣_, inl, inr, Star, end, more, Opt, any}
-use Rattle.spec.specs.Grammar.Names.{Dialect, PEReference}
+use Rattle.spec.specs.Grammar.Names.{Dialect, PEReference, AsciiNames}
 use Rattle.spec.specs.Reading.Dtd.{skip-s, parse-pe-reference, parse-markup-decl, subset-fuel, parse-internal-subset}
 use Rattle.spec.specs.Reading.Readers.{ok, Reader, _>>_, refuse, at-end, starts, choose, on, word}
 use Rattle.spec.specs.Reading.Refusals.{unterminated, unexpected}
@@ -21,7 +21,7 @@ use Rattle.spec.proofs.Agreement.Whole.{at-end-reads}
 use Rattle.spec.proofs.Agreement.Words.{wd, first-of, starts-clash, starts-sign}
 use Rattle.spec.proofs.Base.Results.{err-ok}
 use Rattle.spec.proofs.Characters.Text.{star-append, cat-size}
-use Rattle.spec.proofs.Wellformed.Names.{AsciiNames, name-reads}
+use Rattle.spec.proofs.Wellformed.Names.{name-reads}
 
 module _ (D : Dialect) (M : Bool → Lang) where
   -- an entry, by whether a parameter-entity reference has stood before it, and has stood after it

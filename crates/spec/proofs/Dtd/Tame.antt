@@ -8,7 +8,7 @@ use lib.Dec.{T, eqb}
 use Rattle.spec.specs.Grammar.Declarations.{NDataDecl, listed, AttType, DefaultDecl, AttDef, attlist-body, entity-body, notation-body}
 use Rattle.spec.specs.Grammar.Languages.{Lang, Ch, inl, inr, Star, any, none-of}
 use Rattle.spec.specs.Grammar.Literals.{Quoted, SystemLiteral, PubidLiteral, pubid-char, EntityValue, AttValue, ExternalID, PublicID}
-use Rattle.spec.specs.Grammar.Names.{Dialect, Nmtoken, NCName}
+use Rattle.spec.specs.Grammar.Names.{Dialect, Nmtoken, NCName, AsciiNames}
 use Rattle.spec.specs.Grammar.References.{Referring}
 use Rattle.spec.proofs.Agreement.Tame.{Within, within-cat, within-either, within-star, within-ch, within-lit, within-none, within-s, within-s?, within-name}
 use Rattle.spec.proofs.Agreement.Texts.{texts-referring}
@@ -16,7 +16,6 @@ use Rattle.spec.proofs.Base.Tests.{T→true, eqb-no}
 use Rattle.spec.proofs.Characters.Bytes.{avoids-class, not-one}
 use Rattle.spec.proofs.Characters.Text.{star-one, star-map}
 use Rattle.spec.proofs.Dtd.Values.{quote-foreign, apostrophe-foreign}
-use Rattle.spec.proofs.Wellformed.Names.{AsciiNames}
 use Rattle.spec.proofs.Wellformed.References.{ref-avoids, Foreign}
 
 -- literals

@@ -7,14 +7,13 @@ use Rattle.spec.specs.Grammar.Declarations.{Delimited, Unread, declared,
 use Rattle.spec.specs.Grammar.Doctype.{intSubset, doctypedecl}
 use Rattle.spec.specs.Grammar.Languages.{Lang, lit, _·_, _∣_, Star, none-of}
 use Rattle.spec.specs.Grammar.Literals.{SystemLiteral}
-use Rattle.spec.specs.Grammar.Names.{Dialect, NCName, PITarget, PEReference}
+use Rattle.spec.specs.Grammar.Names.{Dialect, NCName, PITarget, PEReference, AsciiNames}
 use Rattle.spec.specs.Reading.Dtd.{check-doctype}
 use Rattle.spec.proofs.Agreement.Accepts.{Agrees}
 use Rattle.spec.proofs.Agreement.Tame.{Within, tame-delimited, within-element}
 use Rattle.spec.proofs.Agreement.Texts.{Texts, texts-cat, texts-star, texts-lit, texts-ch, texts-either, texts-none, texts-s, texts-s?, texts-name}
 use Rattle.spec.proofs.Dtd.Markup.{doctype-whole}
 use Rattle.spec.proofs.Dtd.Tame.{within-external, within-attlist, within-entity, within-notation}
-use Rattle.spec.proofs.Wellformed.Names.{AsciiNames}
 
 texts-delimited : Texts Delimited
 unfolding Delimited SystemLiteral

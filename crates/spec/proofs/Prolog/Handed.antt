@@ -6,13 +6,13 @@ use Prim.Native.Nat.{ℕ, _+_}
 use Prim.Native.String.{String}
 use native.Mathlib.Omega.{arith}
 use lib.ListN.{length}
-use Rattle.spec.specs.Grammar.Characters.{S, S?, space}
+use Rattle.spec.specs.Grammar.Characters.{S, S?, space, latin-letter}
 use Rattle.spec.specs.Grammar.Doctype.{Misc}
 use Rattle.spec.specs.Grammar.Languages.{Lang, lit, ascii, Ch, _·_, _∣_, inl, inr, Star, Plus, one-of}
 use Rattle.spec.specs.Grammar.Literals.{Quoted}
-use Rattle.spec.specs.Grammar.Names.{Dialect}
+use Rattle.spec.specs.Grammar.Names.{Dialect, AsciiNames}
 use Rattle.spec.specs.Grammar.References.{digit}
-use Rattle.spec.specs.Grammar.XmlDecl.{Eq, VersionNum, VersionInfo, latin-letter, enc-char, EncName, EncodingDecl, SDDecl, XMLDecl}
+use Rattle.spec.specs.Grammar.XmlDecl.{Eq, VersionNum, VersionInfo, enc-char, EncName, EncodingDecl, SDDecl, XMLDecl}
 use Rattle.spec.specs.Promises.{Covered}
 use Rattle.spec.specs.Reading.Prolog.{declaration, doctype, declared, docked, word-at, is-declaration, doctype-end, next-item}
 use Rattle.spec.specs.Reading.Readers.{starts, run}
@@ -26,7 +26,6 @@ use Rattle.spec.proofs.Characters.Text.{star-one, reclass}
 use Rattle.spec.proofs.Prolog.Heads.{doctype-ends}
 use Rattle.spec.proofs.Prolog.Misc.{pass-misc, ends-target, space-ends}
 use Rattle.spec.proofs.Prolog.Turns.{moved, next-declaration, next-doctype}
-use Rattle.spec.proofs.Wellformed.Names.{AsciiNames}
 use Rattle.spec.proofs.Wellformed.References.{Avoiding, avoiding-cat, avoiding-lit, plus-avoiding}
 
 -- the DOCTYPE, after whatever may stand before it

@@ -10,7 +10,7 @@ use Rattle.spec.specs.Basics.{pick}
 use Rattle.spec.specs.Grammar.Characters.{S?, space}
 use Rattle.spec.specs.Grammar.Division.{Front}
 use Rattle.spec.specs.Grammar.Languages.{ascii}
-use Rattle.spec.specs.Grammar.Names.{Dialect}
+use Rattle.spec.specs.Grammar.Names.{Dialect, AsciiNames}
 use Rattle.spec.specs.Premise.{bare}
 use Rattle.spec.specs.Promises.{Covered, no-subset, has-subset}
 use Rattle.spec.specs.Reading.Prolog.{word-at, head-end, after-head, after-subset, doctype-end}
@@ -23,7 +23,6 @@ use Rattle.spec.proofs.Characters.Bytes.{avoids, class-avoids}
 use Rattle.spec.proofs.Division.Clear.{Clear, outside-quoting, clear-tame, clear-filling, within-front}
 use Rattle.spec.proofs.Division.Places.{parts-met}
 use Rattle.spec.proofs.Division.Scans.{found-after, weaken}
-use Rattle.spec.proofs.Wellformed.Names.{AsciiNames}
 
 module _ (D : Dialect) (A : AsciiNames D) where
   clear-head : (w : List ℕ) → Front D w → Clear head-end w

@@ -15,7 +15,7 @@ use Rattle.spec.specs.Grammar.Characters.{S, space}
 use Rattle.spec.specs.Grammar.Declarations.{PI, Comment}
 use Rattle.spec.specs.Grammar.Doctype.{Misc}
 use Rattle.spec.specs.Grammar.Languages.{ascii, Ch, _·_, _∣_, inl, inr, Star, end, more, Plus, Opt, one-of, among}
-use Rattle.spec.specs.Grammar.Names.{Dialect, PITarget}
+use Rattle.spec.specs.Grammar.Names.{Dialect, PITarget, AsciiNames}
 use Rattle.spec.specs.Reading.Dtd.{reserved}
 use Rattle.spec.specs.Reading.Prolog.{word-at, is-declaration, next-item}
 use Rattle.spec.specs.Reading.Readers.{of-point, begins, starts, run}
@@ -32,7 +32,6 @@ use Rattle.spec.proofs.Characters.Utf8.{encode-1, decode-1, decode-read
 use Rattle.spec.proofs.Dtd.Comments.{twice, first-close, Shaped, shape}
 use Rattle.spec.proofs.Dtd.Instructions.{Unmarked, Inner, inner-free, reserved-xml, target-avoids}
 use Rattle.spec.proofs.Prolog.Turns.{moved, moved-moved, moved-none, next-space, next-comment, next-instruction}
-use Rattle.spec.proofs.Wellformed.Names.{AsciiNames}
 
 -- a character of an ASCII class comes first just where its byte does
 module _ (s : String) (small : T (all-ascii (ascii s))) (none : one-of s 0 ≡ false) where

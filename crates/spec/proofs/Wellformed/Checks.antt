@@ -8,7 +8,7 @@ use lib.Dec.{T, eqb}
 use lib.ListN.{length, length-append}
 use Rattle.spec.specs.Grammar.Characters.{xml-char, Chars, Text}
 use Rattle.spec.specs.Grammar.Languages.{ascii, Ch, Star, end, more, any, none-of}
-use Rattle.spec.specs.Grammar.Names.{Dialect, Name}
+use Rattle.spec.specs.Grammar.Names.{Dialect, Name, AsciiNames}
 use Rattle.spec.specs.Grammar.References.{Referred, CharData, AttText}
 use Rattle.spec.specs.Grammar.Utf8.{scalar, encode}
 use Rattle.spec.specs.Reading.Readers.{Result, ok, err, starts, choose, on, contains, past, a-byte, throughout}
@@ -29,7 +29,7 @@ use Rattle.spec.proofs.Characters.LegalBytes.{tail-legal, legal-here}
 use Rattle.spec.proofs.Characters.Text.{star-one, reclass}
 use Rattle.spec.proofs.Characters.Utf8.{encode-1}
 use Rattle.spec.proofs.Dtd.Values.{tail-starts, byte-taken, Free, refs-sound, refs-complete}
-use Rattle.spec.proofs.Wellformed.Names.{AsciiNames, check-name-whole}
+use Rattle.spec.proofs.Wellformed.Names.{check-name-whole}
 use Rattle.spec.proofs.Wellformed.References.{Foreign}
 use Rattle.spec.proofs.Wellformed.Walks.{Step, over-char, walk-sound, walk-complete, walked-referring, referring-walked, walked-free}
 

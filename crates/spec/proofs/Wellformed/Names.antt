@@ -5,10 +5,8 @@ use mathlib.Core.Logic.{⊎-elim}
 use mathlib.Core.Path.{_≡_, refl, _∙_}
 use Prim.Native.Nat.{ℕ, suc, _<_}
 use lib.Dec.{T, ltb, eqb}
-use Rattle.spec.specs.Grammar.Languages.{Ch, Star, one-of}
-use Rattle.spec.specs.Grammar.Names.{Dialect, Name, Nmtoken}
-use Rattle.spec.specs.Grammar.References.{digit}
-use Rattle.spec.specs.Grammar.XmlDecl.{latin-letter}
+use Rattle.spec.specs.Grammar.Languages.{Ch, Star}
+use Rattle.spec.specs.Grammar.Names.{Dialect, start-sign, part-sign, AsciiNames, Name, Nmtoken}
 use Rattle.spec.specs.Reading.Dtd.{nmtoken}
 use Rattle.spec.specs.Reading.Readers.{begins, char, at-end}
 use Rattle.spec.specs.Reading.Refusals.{bad-name}
@@ -21,17 +19,6 @@ use Rattle.spec.proofs.Agreement.Runs.{at-least-one}
 use Rattle.spec.proofs.Agreement.Signs.{Class, Sub, sub-at, sub-any, sub-refl, _∪_, in-left, in-right, by-signs}
 use Rattle.spec.proofs.Agreement.Whole.{at-end-reads, Whole, whole, ends-seq, ends-at-end}
 use Rattle.spec.proofs.Base.Tests.{decide, leb-true}
-
--- the ASCII part of the name classes
-abbrev pub start-sign : Class
-start-sign k = latin-letter k || one-of "_:" k
-
-abbrev pub part-sign : Class
-part-sign k = latin-letter k || one-of "_:-." k || digit k
-
-pub record AsciiNames (D : Dialect) : Type 0 where
-  pub start-ascii : (c : ℕ) → c < 128 → D .start c ≡ start-sign c
-  pub part-ascii : (c : ℕ) → c < 128 → D .part c ≡ part-sign c
 
 -- the signs that names begin with, go on with, and end before
 abbrev pub start-first : Class

@@ -16,6 +16,10 @@ Chars = Star (Ch xml-char)
 unfoldable pub Text : Lang
 Text = Star (Ch any)
 
+-- [A-Za-z]
+abbrev pub latin-letter : ℕ → Bool
+latin-letter c = within 0x41 0x5A c || within 0x61 0x7A c
+
 -- [3] S ::= (#x20 | #x9 | #xD | #xA)+
 abbrev pub space : ℕ → Bool
 space = one-of " \t\r\n"

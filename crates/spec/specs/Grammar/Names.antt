@@ -1,8 +1,10 @@
 -- Names, over any classes of name characters: W3C XML 1.0, sections 2.3 and 2.6, and Namespaces in XML 1.0. Assumes nothing.
-use mathlib.Core.Bool.{Bool}
-use Prim.Native.Nat.{ℕ}
+use mathlib.Core.Bool.{Bool, _||_}
+use mathlib.Core.Path.{_≡_}
+use Prim.Native.Nat.{ℕ, _<_}
 use Rattle.spec.specs.Grammar.Languages.{Lang, lit, Ch, _·_, _∖_, Star, Plus, one-of}
-use Rattle.spec.specs.Grammar.Characters.{Text}
+use Rattle.spec.specs.Grammar.Characters.{latin-letter, Text}
+use Rattle.spec.specs.Grammar.References.{digit}
 use Rattle.spec.specs.Reading.Refusals.{Refusal}
 
 -- What the grammar and the order of reading leave open: the characters that begin a name ([4] NameStartChar) and that go on with
@@ -14,12 +16,27 @@ pub record Dialect : Type 0 where
   pub groups : ℕ
   pub beyond : Refusal
 
--- the same with another limit, and with another refusal
+-- the same with other classes, with another limit, and with another refusal
+abbrev pub with-classes : Dialect → (ℕ → Bool) → (ℕ → Bool) → Dialect
+with-classes D p q = record { start = p; part = q; groups = D .groups; beyond = D .beyond }
+
 abbrev pub with-groups : Dialect → ℕ → Dialect
 with-groups D n = record { start = D .start; part = D .part; groups = n; beyond = D .beyond }
 
 abbrev pub with-beyond : Dialect → Refusal → Dialect
 with-beyond D r = record { start = D .start; part = D .part; groups = D .groups; beyond = r }
+
+-- XML's name characters below 128, the same in every edition: what begins a name, and what goes on with it
+abbrev pub start-sign : ℕ → Bool
+start-sign c = latin-letter c || one-of "_:" c
+
+abbrev pub part-sign : ℕ → Bool
+part-sign c = latin-letter c || one-of "_:-." c || digit c
+
+-- What the theorems ask of name classes: below 128 they have these characters, and no others.
+pub record AsciiNames (D : Dialect) : Type 0 where
+  pub start-ascii : (c : ℕ) → c < 128 → D .start c ≡ start-sign c
+  pub part-ascii : (c : ℕ) → c < 128 → D .part c ≡ part-sign c
 
 module _ (D : Dialect) where
   -- [5] Name ::= NameStartChar (NameChar)*

@@ -1,9 +1,8 @@
 -- The XML declaration: W3C XML 1.0, sections 2.8, 2.9 and 4.3.3. Assumes nothing.
 use mathlib.Core.Bool.{Bool, _||_}
 use Prim.Native.Nat.{ℕ}
-use Rattle.spec.specs.Basics.{within}
 use Rattle.spec.specs.Grammar.Languages.{Lang, lit, Ch, _·_, _∣_, Star, Plus, Opt, one-of}
-use Rattle.spec.specs.Grammar.Characters.{S, S?}
+use Rattle.spec.specs.Grammar.Characters.{latin-letter, S, S?}
 use Rattle.spec.specs.Grammar.Literals.{Quoted}
 use Rattle.spec.specs.Grammar.References.{digit}
 
@@ -18,10 +17,6 @@ VersionNum = lit "1." · Plus (Ch digit)
 -- [24] VersionInfo ::= S 'version' Eq ("'" VersionNum "'" | '"' VersionNum '"')
 unfoldable pub VersionInfo : Lang
 VersionInfo = S · lit "version" · Eq · Quoted VersionNum VersionNum
-
--- [A-Za-z]
-abbrev pub latin-letter : ℕ → Bool
-latin-letter c = within 0x41 0x5A c || within 0x61 0x7A c
 
 -- what an encoding's name goes on with: [A-Za-z0-9._] | '-'
 abbrev pub enc-char : ℕ → Bool

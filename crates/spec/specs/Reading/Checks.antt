@@ -7,10 +7,10 @@ use Prim.Native.String.{String}
 use lib.Dec.{eqb, ltb}
 use lib.ListN.{length, drop}
 use Rattle.spec.specs.Grammar.Languages.{ascii}
-use Rattle.spec.specs.Grammar.Characters.{space}
+use Rattle.spec.specs.Grammar.Characters.{space, latin-letter}
 use Rattle.spec.specs.Grammar.Names.{Dialect}
 use Rattle.spec.specs.Grammar.References.{digit}
-use Rattle.spec.specs.Grammar.XmlDecl.{latin-letter, enc-char}
+use Rattle.spec.specs.Grammar.XmlDecl.{enc-char}
 use Rattle.spec.specs.Reading.Refusals.{unexpected, trailing, bad-value}
 use Rattle.spec.specs.Reading.Readers.{Result, Reader, number-of, _>>_, nothing, refuse, at-end, starts, choose, word, run, contains}
 use Rattle.spec.specs.Reading.Wellformed.{check-name}
