@@ -12,7 +12,7 @@ use Rattle.spec.specs.Reading.Readers.{starts, a-byte}
 use Rattle.spec.specs.Reading.Wellformed.{illegal-here}
 use Rattle.spec.proofs.Base.Tests.{eqb-no, or-false-left, or-false-right}
 use Rattle.spec.proofs.Base.Places.{drop-at, drop-end}
-use Rattle.error.specs.Read.{read}
+use Rattle.error.specs.Read.{said, read}
 use Rattle.error.specs.declared.Answer.the-variants.{At}
 use Rattle.error.proofs.Laws.{chain}
 use Rattle.chars.specs.Bytes.{suspect, special}
@@ -31,12 +31,12 @@ unfolding special
 special-is mark b t e = rw e
 
 -- the next byte
-pub byte-here : (s : List ℕ) (i : ℕ) → i < length s → At (i + 1) ≡ read a-byte s i
-unfolding read a-byte
+pub byte-here : (s : List ℕ) (i : ℕ) → i < length s → said (At (i + 1)) ≡ read a-byte s i
+unfolding read said a-byte
 byte-here s i h = rw (drop-at s i h)
 
-pub byte-none : (s : List ℕ) (i : ℕ) → length s ≤ i → At i ≡ read a-byte s i
-unfolding read a-byte
+pub byte-none : (s : List ℕ) (i : ℕ) → length s ≤ i → said (At i) ≡ read a-byte s i
+unfolding read said a-byte
 byte-none s i h = rw (drop-end s i h, add-zero)
 
 -- an illegal character begins with a suspect byte

@@ -14,8 +14,7 @@ use Rattle.spec.specs.Reading.Readers.{Result, ok, err, Reader, past, starts, c
 use Rattle.spec.proofs.Base.Tests.{eqb-no}
 use Rattle.spec.proofs.Base.Loops.{Somes, through-turn}
 use Rattle.spec.proofs.Base.Results.{past-past}
-use Rattle.error.specs.Read.{placed, read}
-use Rattle.error.specs.declared.Answer.{Answer}
+use Rattle.error.specs.Read.{Said, placed, read}
 use Rattle.error.proofs.Laws.{read-on, walk}
 use Rattle.search.specs.Runs.{away, Skipped}
 use Rattle.search.proofs.Runs.{away-go}
@@ -68,13 +67,13 @@ through-run R q some r (b ∷ w) = go (q b) refl (run (λ b. not (q b)) w) (thro
 skip-run : (R : Reader) (q : ℕ → Bool) → Somes R → Plain R q → (s : List ℕ) (i : ℕ) → read (throughout R) s (i + away q (drop i s)) ≡ read (throughout R) s i
 skip-run R q some r s i = read-on (throughout R) s i (away q (drop i s)) ∙ (unfold read in ap (placed i) (sym (through-run R q some r (drop i s))))
 
-pub walk-skip : (R : Reader) (q : ℕ → Bool) (s : List ℕ) (i e : ℕ) (W : Answer) → Somes R → Skipped q s i e → Plain R q → read (throughout R) s i ≡ W → read (throughout R) s e ≡ W
+pub walk-skip : (R : Reader) (q : ℕ → Bool) (s : List ℕ) (i e : ℕ) (W : Said) → Somes R → Skipped q s i e → Plain R q → read (throughout R) s i ≡ W → read (throughout R) s e ≡ W
 walk-skip R q s i e W some sk r inv = sym (skip-run R q some r s e) ∙ ap (read (throughout R) s) (sk .ends) ∙ skip-run R q some r s i ∙ inv
 
-pub walk-past : (R : Reader) (q : ℕ → Bool) (s : List ℕ) (i : ℕ) (t : Bool) (W : Answer) → Somes R → i < length s → t ≡ q (getD s i 0) → t ≡ false → Plain R q → read (throughout R) s i ≡ W → read (throughout R) s (i + 1) ≡ W
+pub walk-past : (R : Reader) (q : ℕ → Bool) (s : List ℕ) (i : ℕ) (t : Bool) (W : Said) → Somes R → i < length s → t ≡ q (getD s i 0) → t ≡ false → Plain R q → read (throughout R) s i ≡ W → read (throughout R) s (i + 1) ≡ W
 walk-past R q s i t W some h e f r inv = walk-skip R q s i (i + 1) W some (record { onward = omega arith; ends = away-go q s i i t h e refl f }) r inv
 
-pub walk-past-skip : (R : Reader) (q : ℕ → Bool) (s : List ℕ) (i e : ℕ) (t : Bool) (W : Answer) → Somes R → Skipped q s (i + 1) e → i < length s → t ≡ q (getD s i 0) → t ≡ false → Plain R q → read (throughout R) s i ≡ W
+pub walk-past-skip : (R : Reader) (q : ℕ → Bool) (s : List ℕ) (i e : ℕ) (t : Bool) (W : Said) → Somes R → Skipped q s (i + 1) e → i < length s → t ≡ q (getD s i 0) → t ≡ false → Plain R q → read (throughout R) s i ≡ W
     → read (throughout R) s e ≡ W
 walk-past-skip R q s i e t W some sk h a f r inv = walk-skip R q s (i + 1) e W some sk r (walk-past R q s i t W some h a f r inv)
 

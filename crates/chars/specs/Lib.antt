@@ -1,3 +1,3 @@
 pub mod Bytes
 pub mod Digits
-pub mod Found
+pub mod References

@@ -11,7 +11,7 @@ ghost use lib.ListN.{drop};
 ghost use Rattle.spec.specs.Grammar.Characters.{xml-char};
 ghost use Rattle.spec.specs.Reading.Readers.{number-of, a-byte};
 ghost use Rattle.spec.specs.Reading.Wellformed.{illegal-here, legal-byte, check-chars};
-ghost use Rattle.error.specs.Read.{read};
+ghost use Rattle.error.specs.Read.{said, read};
 ghost use Rattle.chars.specs.Bytes.{suspect};
 
 // Production 2, Char.
@@ -35,7 +35,7 @@ pub fn is_suspect(b: u8) -> bool
 
 // The place after the next byte; at the end there is none.
 pub fn next_byte(s: &[u8], i: usize) -> Answer
-    ensures { λ r. ⌜ r ≡ read a-byte (now (s .entry)) i ⌝ }
+    ensures { λ r. ⌜ said r ≡ read a-byte (now (s .entry)) i ⌝ }
 {
     if i < s.len() {
         return Answer::At(i + 1);
@@ -58,7 +58,7 @@ fn is_illegal_at(s: &[u8], i: usize) -> bool
 
 // On any byte, also one that is not suspect; at the end nothing is refused.
 pub fn check_suspect_byte(s: &[u8], i: usize) -> Answer
-    ensures { λ r. ⌜ r ≡ read legal-byte (now (s .entry)) i ⌝ }
+    ensures { λ r. ⌜ said r ≡ read legal-byte (now (s .entry)) i ⌝ }
 {
     if is_illegal_at(s, i) {
         return Answer::No(error::ILLEGAL_CHAR, i);
@@ -81,7 +81,7 @@ fn any_suspect(text: &[u8]) -> bool
 
 // The pass that decides where a suspect byte stands. It has no mark of its own: 0xEF is suspect anyway.
 pub fn walk_chars(text: &[u8]) -> Answer
-    ensures { λ r. ⌜ r ≡ read check-chars (now (text .entry)) 0 ⌝ }
+    ensures { λ r. ⌜ said r ≡ read check-chars (now (text .entry)) 0 ⌝ }
 {
     let mut i: usize = 0;
     let mut calm: usize = 0;

@@ -12,9 +12,9 @@ ghost use Prim.Native.Nat.{_+_, _*_, min};
 ghost use Rattle.spec.specs.Grammar.References.{digit-value};
 ghost use Rattle.spec.specs.Reading.Readers.{number-of};
 ghost use Rattle.spec.specs.Reading.Wellformed.{reference, char-ref, ref-or-byte, check-char-refs};
-ghost use Rattle.error.specs.Read.{read};
+ghost use Rattle.error.specs.Read.{said, read};
 ghost use Rattle.chars.specs.Digits.{base, digit-of, past-points, Digits-read};
-ghost use Rattle.chars.specs.Found.{found, told};
+ghost use Rattle.chars.specs.References.{reference-said};
 
 // The first number past all code points.
 const PAST_POINTS: u32 = 0x110000;
@@ -105,7 +105,7 @@ fn read_digits(s: &[u8], at: usize, hex: bool) -> Digits
 
 // What follows "&#" or "&#x": a digit or more, then ';', and the value is that of a Char.
 fn check_digits(s: &[u8], at: usize, hex: bool) -> Reference
-    ensures { λ r. ⌜ r ≡ found (read (reference (base hex) (digit-of hex)) (now (s .entry)) at) ⌝ }
+    ensures { λ r. ⌜ reference-said r at ≡ read (reference (base hex) (digit-of hex)) (now (s .entry)) at ⌝ }
 {
     let d = read_digits(s, at, hex);
     let end = d.end;
@@ -123,7 +123,7 @@ fn check_digits(s: &[u8], at: usize, hex: bool) -> Reference
 
 // Production 66. Only a lower-case x introduces a hexadecimal reference.
 pub fn check_char_ref_at(s: &[u8], at: usize) -> Reference
-    ensures { λ r. ⌜ r ≡ found (read char-ref (now (s .entry)) at) ⌝ }
+    ensures { λ r. ⌜ reference-said r at ≡ read char-ref (now (s .entry)) at ⌝ }
 {
     if at_keyword(s, at, b"&#x") {
         return check_digits(s, at + 3, true);
@@ -136,7 +136,7 @@ pub fn check_char_ref_at(s: &[u8], at: usize) -> Reference
 
 // A bad reference is refused where it begins.
 pub fn tell_reference(r: Reference, at: usize) -> Answer
-    ensures { λ a. ⌜ a ≡ told r at ⌝ }
+    ensures { λ a. ⌜ said a ≡ reference-said r at ⌝ }
 {
     match r {
         Reference::Ends(e) => Answer::At(e),
@@ -146,7 +146,7 @@ pub fn tell_reference(r: Reference, at: usize) -> Answer
 
 // '&' without '#' goes unchecked.
 fn ref_or_byte(s: &[u8], i: usize) -> Answer
-    ensures { λ r. ⌜ r ≡ read ref-or-byte (now (s .entry)) i ⌝ }
+    ensures { λ r. ⌜ said r ≡ read ref-or-byte (now (s .entry)) i ⌝ }
 {
     if at_keyword(s, i, b"&#") {
         let r = check_char_ref_at(s, i);
@@ -157,7 +157,7 @@ fn ref_or_byte(s: &[u8], i: usize) -> Answer
 
 // The references from `at` on.
 pub fn walk_char_refs(text: &[u8], at: usize) -> Answer
-    ensures { λ r. ⌜ r ≡ read check-char-refs (now (text .entry)) at ⌝ }
+    ensures { λ r. ⌜ said r ≡ read check-char-refs (now (text .entry)) at ⌝ }
 {
     let mut i = at;
     let mut calm: usize = 0;

@@ -13,8 +13,7 @@ use Rattle.spec.specs.Reading.Readers.{nothing, starts, run}
 use Rattle.spec.specs.Reading.Refusals.{number, no-space, unexpected}
 use Rattle.spec.proofs.Checks.XmlDecl.{declaration-agrees}
 use Rattle.spec.proofs.Inside.Checks.{declaration-placed}
-use Rattle.error.specs.Read.{read}
-use Rattle.error.specs.declared.Answer.{Answer}
+use Rattle.error.specs.Read.{Said, said, read}
 use Rattle.error.specs.declared.Answer.the-variants.{At, No}
 use Rattle.error.proofs.Laws.{seq-no, seq-at, choose-yes, choose-no, took-nothing}
 use Rattle.source.proofs.Admitting.{calling}
@@ -29,17 +28,17 @@ module _ (name : List ℕ) (test : List ℕ → Bool) (s : List ℕ) (at i : ℕ
   named : b ≡ starts name (drop (run space (drop at s)) (drop at s))
   named = e ∙ ap (λ (k : ℕ). starts name (drop k s)) h ∙ ap (starts name) (sym (drop-drop (run space (drop at s)) at s))
 
-  pub pseudo-none : b ≡ false → At at ≡ read (pseudo-attr-of name test) s at
+  pub pseudo-none : b ≡ false → said (At at) ≡ read (pseudo-attr-of name test) s at
   unfolding pseudo-attr-of
-  pseudo-none f = choose-no _ _ nothing s at b (At at) named f (took-nothing s at)
+  pseudo-none f = choose-no _ _ nothing s at b (said (At at)) named f (took-nothing s at)
 
-  pub pseudo-tight : b ≡ true → i ≡ at → No (number no-space) at ≡ read (pseudo-attr-of name test) s at
+  pub pseudo-tight : b ≡ true → i ≡ at → said (No (number no-space) at) ≡ read (pseudo-attr-of name test) s at
   unfolding pseudo-attr-of require-s
   pseudo-tight f z =
-      choose-yes _ _ nothing s at b (No (number no-space) at) named f
+      choose-yes _ _ nothing s at b (said (No (number no-space) at)) named f
       (seq-no require-s _ s at (number no-space) at (No (number no-space) at) (required-none no-space skip-s s at _ i (skip-takes (drop at s)) h (number no-space) z refl) refl)
 
-  pub pseudo-there : (q : Answer) → b ≡ true → (i ≡ at → ⊥) → q ≡ read (parse-eq-quoted test) s (i + length name) → q ≡ read (pseudo-attr-of name test) s at
+  pub pseudo-there : (q : Said) → b ≡ true → (i ≡ at → ⊥) → q ≡ read (parse-eq-quoted test) s (i + length name) → q ≡ read (pseudo-attr-of name test) s at
   unfolding pseudo-attr-of require-s
   pseudo-there q f z a =
       choose-yes _ _ nothing s at b q named f

@@ -24,8 +24,8 @@ ghost use Rattle.spec.specs.Promises.{Checks, Stops};
 ghost use Rattle.spec.specs.Reading.Checks.{parse-eq-quoted, check-declaration};
 ghost use Rattle.spec.specs.Reading.Dtd.{require-s};
 ghost use Rattle.spec.specs.Reading.Readers.{number-of};
-ghost use Rattle.error.specs.Read.{read};
-ghost use Rattle.checks.specs.Pieces.{eq-quoted, pseudo-attr-of, after-version};
+ghost use Rattle.error.specs.Read.{said, read};
+ghost use Rattle.checks.specs.Pieces.{quoted-said, eq-quoted, pseudo-attr-of, after-version};
 ghost use Rattle.checks.specs.Values.{test-of};
 
 // The two ends of a value: its first byte, one past its opening quote, and its closing quote.
@@ -42,14 +42,14 @@ pub enum Quoted {
 
 // S before 'version'
 fn require_leading_s(s: &[u8], at: usize) -> Answer
-    ensures { λ r. ⌜ r ≡ read require-s (now (s .entry)) at ⌝ }
+    ensures { λ r. ⌜ said r ≡ read require-s (now (s .entry)) at ⌝ }
 {
     require_s(s, at)
 }
 
 // [25] Eq, and a literal in either quote, whose text is not looked at
 fn parse_eq_quoted(s: &[u8], at: usize) -> Quoted
-    ensures { λ r. ⌜ r ≡ eq-quoted (now (s .entry)) at ⌝ }
+    ensures { λ r. ⌜ quoted-said r ≡ eq-quoted (now (s .entry)) at ⌝ }
 {
     let i = skip_s(s, at);
     let r = eat_str(s, i, b"=", UNEXPECTED);
@@ -69,7 +69,7 @@ fn parse_eq_quoted(s: &[u8], at: usize) -> Quoted
 
 // Eq and a value of the kind, as [24], [80] and [32] end
 fn parse_value(s: &[u8], at: usize, kind: Kind) -> Answer
-    ensures { λ r. ⌜ r ≡ read (parse-eq-quoted (test-of kind)) (now (s .entry)) at ⌝ }
+    ensures { λ r. ⌜ said r ≡ read (parse-eq-quoted (test-of kind)) (now (s .entry)) at ⌝ }
 {
     let r = parse_eq_quoted(s, at);
     match r {
@@ -88,7 +88,7 @@ fn parse_value(s: &[u8], at: usize, kind: Kind) -> Answer
 // [80] EncodingDecl? or [32] SDDecl?, by its name. Where the name is not next after white space, nothing is read; where it is, the
 // white space must be there.
 fn pseudo_attr(s: &[u8], at: usize, name: &[u8], kind: Kind) -> Answer
-    ensures { λ r. ⌜ r ≡ read (pseudo-attr-of (now (name .entry)) (test-of kind)) (now (s .entry)) at ⌝ }
+    ensures { λ r. ⌜ said r ≡ read (pseudo-attr-of (now (name .entry)) (test-of kind)) (now (s .entry)) at ⌝ }
 {
     let i = skip_s(s, at);
     if at_keyword(s, i, name) {
@@ -102,7 +102,7 @@ fn pseudo_attr(s: &[u8], at: usize, name: &[u8], kind: Kind) -> Answer
 
 // EncodingDecl? SDDecl? S? of [23], and then the end
 fn parse_after_version(s: &[u8], at: usize) -> Answer
-    ensures { λ r. ⌜ r ≡ read after-version (now (s .entry)) at ⌝ }
+    ensures { λ r. ⌜ said r ≡ read after-version (now (s .entry)) at ⌝ }
 {
     let r = pseudo_attr(s, at, b"encoding", Kind::EncName);
     let Answer::At(i) = r else {
@@ -118,7 +118,7 @@ fn parse_after_version(s: &[u8], at: usize) -> Answer
 
 // [23] XMLDecl, what stands between `<?` and `?>`: [24] VersionInfo first
 fn parse_declaration(s: &[u8]) -> Answer
-    ensures { λ r. ⌜ r ≡ read check-declaration (now (s .entry)) 0 ⌝ }
+    ensures { λ r. ⌜ said r ≡ read check-declaration (now (s .entry)) 0 ⌝ }
 {
     let r = eat_str(s, 0, b"xml", UNEXPECTED);
     let Answer::At(i) = r else {

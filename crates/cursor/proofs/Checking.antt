@@ -16,8 +16,7 @@ use Rattle.spec.specs.Reading.Wellformed.{check-char-refs}
 use Rattle.spec.specs.Reading.Dtd.{check-pubid, check-att-value}
 use Rattle.spec.proofs.Base.Places.{run-within}
 use Rattle.spec.proofs.Base.Tests.{eqb-yes, eqb-no}
-use Rattle.error.specs.Read.{read}
-use Rattle.error.specs.declared.Answer.{Answer}
+use Rattle.error.specs.Read.{Said, refused, said, read}
 use Rattle.error.specs.declared.Answer.the-variants.{At, No}
 use Rattle.search.specs.FirstPlace.{first-place}
 use Rattle.search.specs.declared.places.Found.{Found}
@@ -36,14 +35,14 @@ pubid-is b = simp (or-false, or-assoc)
 
 -- the bytes of a public identifier, of which i is the next place
 module _ (t : List ℕ) (at i : ℕ) (inv : i + run pubid-char (drop i t) ≡ at + run pubid-char (drop at t)) where
-  pub pubid-bad : (r : Bool) → i < length t → r ≡ pubid-char (getD t i 0) → r ≡ false → No (number bad-pubid) i ≡ read check-pubid t at
-  unfolding read check-pubid
+  pub pubid-bad : (r : Bool) → i < length t → r ≡ pubid-char (getD t i 0) → r ≡ false → said (No (number bad-pubid) i) ≡ read check-pubid t at
+  unfolding read said check-pubid
   pubid-bad r h e n =
       let z : i ≡ at + run pubid-char (drop at t) = class-stop pubid-char t at i inv h r e n in
-      rw (eqb-no (run pubid-char (drop at t)) (length (drop at t)) (λ (f : run pubid-char (drop at t) ≡ length (drop at t)). omega (arith, length-drop at t))) (ap (No (number bad-pubid)) z)
+      rw (eqb-no (run pubid-char (drop at t)) (length (drop at t)) (λ (f : run pubid-char (drop at t) ≡ length (drop at t)). omega (arith, length-drop at t))) (ap (refused (number bad-pubid)) z)
 
-  pub pubid-good : length t ≤ i → At at ≡ read check-pubid t at
-  unfolding read check-pubid
+  pub pubid-good : length t ≤ i → said (At at) ≡ read check-pubid t at
+  unfolding read said check-pubid
   pubid-good h =
       let z : i ≡ at + run pubid-char (drop at t) = run-end pubid-char t at i inv h in
       let y = run-within pubid-char (drop at t) in
@@ -51,11 +50,11 @@ module _ (t : List ℕ) (at i : ℕ) (inv : i + run pubid-char (drop i t) ≡ at
 
 -- the first '<' in the text t, as r says
 module _ (t : List ℕ) (at : ℕ) (r : Found) (e : r ≡ first-place (ascii "<") t at) where
-  pub value-less : (j : ℕ) → r ≡ Here j → No (number less-than) j ≡ read check-att-value t at
-  unfolding read check-att-value choose refuse-at
+  pub value-less : (j : ℕ) → r ≡ Here j → said (No (number less-than) j) ≡ read check-att-value t at
+  unfolding read said check-att-value choose refuse-at
   value-less j y = let (c, l) = was-here (ascii "<") t at r e j y in rw (c, l)
 
-  pub value-refs : (q : Answer) → r ≡ Nowhere → q ≡ read check-char-refs t at → q ≡ read check-att-value t at
+  pub value-refs : (q : Said) → r ≡ Nowhere → q ≡ read check-char-refs t at → q ≡ read check-att-value t at
   unfolding read check-att-value choose
   value-refs q n f = f ∙ (rw (was-nowhere (ascii "<") t at r e n))
 

@@ -15,7 +15,7 @@ use Rattle.spec.specs.Reading.Readers.{ok, err, before}
 use Rattle.spec.specs.Reading.Wellformed.{name, name-length}
 use Rattle.spec.specs.Reading.Dtd.{ncname}
 use Rattle.spec.proofs.Wellformed.LongestName.{Named, a-name, no-name, named, name-within, parts-ok}
-use Rattle.error.specs.Read.{read}
+use Rattle.error.specs.Read.{said, read}
 use Rattle.error.specs.declared.Answer.the-variants.{At, No}
 use Rattle.spec.proofs.Agreement.Words.{before-within}
 use Rattle.search.specs.FirstPlace.{first-place}
@@ -40,12 +40,12 @@ module _ (D : Dialect) (s p : List ℕ) (at : ℕ) (n : NamePart D (drop at s) p
         go (a-name k h e t) = let l : length p ≡ k = size ∙ (unfold name-length in (rw e)) in absurd (omega arith)
         go (no-name e f) = e
 
-    pub name-no : (m : ℕ) → m ≡ number bad-name → No m at ≡ read (name D) s at
-    unfolding read
+    pub name-no : (m : ℕ) → m ≡ number bad-name → said (No m at) ≡ read (name D) s at
+    unfolding read said
     name-no m e = rw (no-part, e, add-zero)
 
-    pub ncname-no : (m : ℕ) → m ≡ number bad-name → No m at ≡ read (ncname D) s at
-    unfolding read ncname
+    pub ncname-no : (m : ℕ) → m ≡ number bad-name → said (No m at) ≡ read (ncname D) s at
+    unfolding read said ncname
     ncname-no m e = rw (no-part, e, add-zero)
 
   -- and else what the reader takes
@@ -57,8 +57,8 @@ module _ (D : Dialect) (s p : List ℕ) (at : ℕ) (n : NamePart D (drop at s) p
         go (a-name k h e t) = e ∙ ap ok (sym (size ∙ (unfold name-length in (rw e))))
         go (no-name e f) = absurd (z (size ∙ (unfold name-length in (rw e))))
 
-    pub name-yes : At (at + length p) ≡ read (name D) s at
-    unfolding read
+    pub name-yes : said (At (at + length p)) ≡ read (name D) s at
+    unfolding read said
     name-yes = rw a-part
 
     pub name-fits : length s < 2 ^ 64 → Fits w64 (at + length p)
@@ -70,8 +70,8 @@ module _ (D : Dialect) (s p : List ℕ) (at : ℕ) (n : NamePart D (drop at s) p
     -- the first colon in it, as r says
     module _ (r : Found) (e : r ≡ first-place (ascii ":") p 0) where
       module _ (j : ℕ) (y : r ≡ Here j) where
-        pub ncname-colon : (m : ℕ) → m ≡ number has-colon → No m (at + j) ≡ read (ncname D) s at
-        unfolding read ncname
+        pub ncname-colon : (m : ℕ) → m ≡ number has-colon → said (No m (at + j)) ≡ read (ncname D) s at
+        unfolding read said ncname
         ncname-colon m f =
             let (c, l) = was-here (ascii ":") p 0 r e j y in
             let z : j ≡ before (ascii ":") p = omega arith in
@@ -85,8 +85,8 @@ module _ (D : Dialect) (s p : List ℕ) (at : ℕ) (n : NamePart D (drop at s) p
             let k = size in
             omega arith
 
-      pub ncname-yes : r ≡ Nowhere → At (at + length p) ≡ read (ncname D) s at
-      unfolding read ncname
+      pub ncname-yes : r ≡ Nowhere → said (At (at + length p)) ≡ read (ncname D) s at
+      unfolding read said ncname
       ncname-yes y = rw (a-part, ← same-part, was-nowhere (ascii ":") p 0 r e y)
 
 -- what code over names searches

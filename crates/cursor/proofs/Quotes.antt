@@ -19,10 +19,10 @@ use Rattle.spec.specs.Reading.Dtd.{parse-quoted}
 use Rattle.spec.proofs.Base.Tests.{decide, eqb-true, or-cases, or-false-left, or-false-right}
 use Rattle.spec.proofs.Base.Places.{drop-at, drop-end}
 use Rattle.spec.proofs.Agreement.Words.{before-within}
-use Rattle.error.specs.Read.{read, placed}
+use Rattle.error.specs.Read.{passed, refused, said, placed, read}
 use Rattle.error.specs.declared.Answer.{Answer}
 use Rattle.error.specs.declared.Answer.the-variants.{At, No}
-use Rattle.error.proofs.Laws.{At≢No, At-inj, was-ok, was-err}
+use Rattle.error.proofs.Laws.{passed≢refused, passed-inj, was-ok, was-err}
 use Rattle.search.specs.FirstPlace.{first-place}
 use Rattle.search.specs.declared.places.Found.{Found}
 use Rattle.search.specs.declared.places.Found.the-variants.{Here, Nowhere}
@@ -60,17 +60,17 @@ module _ (check : List ℕ → Result) where
 
 -- No literal at a place.
 module _ (check : List ℕ → Result) (s : List ℕ) (at m : ℕ) where
-  pub literal-none : length s ≤ at → m ≡ number no-literal → No m at ≡ read (parse-quoted check) s at
-  unfolding read
+  pub literal-none : length s ≤ at → m ≡ number no-literal → said (No m at) ≡ read (parse-quoted check) s at
+  unfolding read said
   literal-none h e = rw (drop-end s at h, quoted-none check, e, add-zero)
 
   module _ (h : at < length s) where
-    pub literal-other : quote (getD s at 0) ≡ false → m ≡ number no-literal → No m at ≡ read (parse-quoted check) s at
-    unfolding read
+    pub literal-other : quote (getD s at 0) ≡ false → m ≡ number no-literal → said (No m at) ≡ read (parse-quoted check) s at
+    unfolding read said
     literal-other n e = rw (drop-at s at h, quoted-other check (getD s at 0) (drop (at + 1) s) n, e, add-zero)
 
-    pub literal-open : (r : Found) → quote (getD s at 0) ≡ true → r ≡ first-place (getD s at 0 ∷ []) s (at + 1) → r ≡ Nowhere → m ≡ number unterminated → No m (at + 1) ≡ read (parse-quoted check) s at
-    unfolding read
+    pub literal-open : (r : Found) → quote (getD s at 0) ≡ true → r ≡ first-place (getD s at 0 ∷ []) s (at + 1) → r ≡ Nowhere → m ≡ number unterminated → said (No m (at + 1)) ≡ read (parse-quoted check) s at
+    unfolding read said
     literal-open r y f l g = rw (drop-at s at h, quoted-mark check (getD s at 0) (drop (at + 1) s) y, was-nowhere (getD s at 0 ∷ []) s (at + 1) r f l, g)
 
 -- A literal from `at` to e.
@@ -91,11 +91,12 @@ literal-read check s at e l =
     (ap (λ (i : ℕ). placed at (past 1 (on-ok (check (take (before (getD s at 0 ∷ []) (drop (at + 1) s)) (drop (at + 1) s))) (λ _. ok i)))) k)
 
 -- to e, if nothing is checked
-literal-whole : (s : List ℕ) (at e : ℕ) → Literal s at e → At e ≡ read (parse-quoted nothing) s at
+literal-whole : (s : List ℕ) (at e : ℕ) → Literal s at e → passed e ≡ read (parse-quoted nothing) s at
 unfolding nothing
-literal-whole s at e l = ap At (let k : e ≡ at + (1 + (e - at - 1)) = omega (arith, l .ends) in k) ∙ sym (literal-read nothing s at e l)
+literal-whole s at e l = ap passed (let k : e ≡ at + (1 + (e - at - 1)) = omega (arith, l .ends) in k) ∙ sym (literal-read nothing s at e l)
 
-pub literal-closed : (s : List ℕ) (at e : ℕ) (r : Found) → at < length s → quote (getD s at 0) ≡ true → r ≡ first-place (getD s at 0 ∷ []) s (at + 1) → r ≡ Here e → At (e + 1) ≡ read (parse-quoted nothing) s at
+pub literal-closed : (s : List ℕ) (at e : ℕ) (r : Found) → at < length s → quote (getD s at 0) ≡ true → r ≡ first-place (getD s at 0 ∷ []) s (at + 1) → r ≡ Here e → said (At (e + 1)) ≡ read (parse-quoted nothing) s at
+unfolding said
 literal-closed s at e r h y f l = let (c, d) = was-here (getD s at 0 ∷ []) s (at + 1) r f e l in literal-whole s at (e + 1) (record { inside = h; opens = y; closes = c; ends = rw d })
 
 -- There is a literal at a place, or what stands there is refused whatever the check.
@@ -118,18 +119,19 @@ quoted s at = by-place (decide (ltb at (length s)))
     by-place (inl h) = by-mark (ltb-true at (length s) h) (decide (quote (getD s at 0)))
     by-place (inr h) = none no-literal 0 (λ check. rw (drop-end s at (ltb-false at (length s) h)) (quoted-none check))
 
-refused-all : (check : List ℕ → Result) (s : List ℕ) (at : ℕ) (n : Refusal) (k : ℕ) → ((check : List ℕ → Result) → parse-quoted check (drop at s) ≡ err n k) → read (parse-quoted check) s at ≡ No (number n) (at + k)
+refused-all : (check : List ℕ → Result) (s : List ℕ) (at : ℕ) (n : Refusal) (k : ℕ) → ((check : List ℕ → Result) → parse-quoted check (drop at s) ≡ err n k) → read (parse-quoted check) s at ≡ refused (number n) (at + k)
 unfolding read
 refused-all check s at n k f = rw (f check)
 
 -- The text of a literal, whose end e parse_quoted gave: its ends, and a check of it. For any check.
-module _ (e : ℕ) (r : Answer) (b : r ≡ At e) (s : List ℕ) (at : ℕ) (a : r ≡ read (parse-quoted nothing) s at) where
+module _ (e : ℕ) (r : Answer) (b : r ≡ At e) (s : List ℕ) (at : ℕ) (a : said r ≡ read (parse-quoted nothing) s at) where
   literal : Literal s at e
+  unfolding said
   literal = go (quoted s at)
     where
       go : Quoted s at → Literal s at e
-      go (is i l) = subst (Literal s at) (At-inj (literal-whole s at i l ∙ sym a ∙ b)) l
-      go (none n k f) = absurd (At≢No (sym b ∙ a ∙ refused-all nothing s at n k f))
+      go (is i l) = subst (Literal s at) (passed-inj (literal-whole s at i l ∙ sym a ∙ ap said b)) l
+      go (none n k f) = absurd (passed≢refused (sym (ap said b) ∙ a ∙ refused-all nothing s at n k f))
 
   pub text-fits : length s < 2 ^ 64 → Fits w64 (at + 1)
   text-fits h = omega (arith, literal .inside)
@@ -147,27 +149,29 @@ module _ (e : ℕ) (r : Answer) (b : r ≡ At e) (s : List ℕ) (at : ℕ) (a : 
   text-end = omega (arith, text-inside)
 
   -- c is what the check answers where the text up to the closing quote is all there is
-  module _ (check : List ℕ → Result) (c : Answer) (n : c ≡ read check (take (e - 1 - 0) (drop 0 s)) (at + 1)) where
+  module _ (check : List ℕ → Result) (c : Answer) (n : said c ≡ read check (take (e - 1 - 0) (drop 0 s)) (at + 1)) where
     the-text : drop (at + 1) (take (e - 1 - 0) (drop 0 s)) ≡ take (e - 1 - (at + 1)) (drop (at + 1) s)
     the-text = left-of (at + 1) (e - 1) s
 
-    pub text-taken : (i : ℕ) → c ≡ At i → At e ≡ read (parse-quoted check) s at
+    pub text-taken : (i : ℕ) → c ≡ At i → said (At e) ≡ read (parse-quoted check) s at
+    unfolding said
     text-taken i z =
         let (j, (f, _)) = was-ok check (take (e - 1 - 0) (drop 0 s)) (at + 1) i c n z in
         let k : e ≡ at + (1 + (e - at - 1)) = omega (arith, literal .ends) in
-        ap At k ∙ (rw (literal-read check s at e literal, ← the-text, f))
+        ap passed k ∙ (rw (literal-read check s at e literal, ← the-text, f))
 
-    pub text-refused : (m i : ℕ) → c ≡ No m i → c ≡ read (parse-quoted check) s at
+    pub text-refused : (m i : ℕ) → c ≡ No m i → said c ≡ read (parse-quoted check) s at
     text-refused m i z =
         let (r, (j, (f, g))) = was-err check (take (e - 1 - 0) (drop 0 s)) (at + 1) m i c n z in
-        g ∙ ap (No (number r)) (add-assoc at 1 j) ∙ (rw (literal-read check s at e literal, ← the-text, f))
+        g ∙ ap (refused (number r)) (add-assoc at 1 j) ∙ (rw (literal-read check s at e literal, ← the-text, f))
 
 -- what is no literal has no text to check
-pub text-none : (check : List ℕ → Result) (s : List ℕ) (at k i : ℕ) (r : Answer) → r ≡ read (parse-quoted nothing) s at → r ≡ No k i → r ≡ read (parse-quoted check) s at
+pub text-none : (check : List ℕ → Result) (s : List ℕ) (at k i : ℕ) (r : Answer) → said r ≡ read (parse-quoted nothing) s at → r ≡ No k i → said r ≡ read (parse-quoted check) s at
+unfolding said
 text-none check s at k i r a b = go (quoted s at)
   where
-    go : Quoted s at → r ≡ read (parse-quoted check) s at
-    go (is e l) = absurd (At≢No (literal-whole s at e l ∙ sym a ∙ b))
+    go : Quoted s at → said r ≡ read (parse-quoted check) s at
+    go (is e l) = absurd (passed≢refused (literal-whole s at e l ∙ sym a ∙ ap said b))
     go (none n k f) = a ∙ refused-all nothing s at n k f ∙ sym (refused-all check s at n k f)
 
 -- what parse_quoted searches, and what checks the text of a literal

@@ -14,7 +14,7 @@ use Rattle.spec.specs.Reading.Refusals.{Refusal, number}
 use Rattle.spec.specs.Reading.Readers.{ok, Reader, run, required}
 use Rattle.spec.specs.Reading.Dtd.{skip-s}
 use Rattle.spec.proofs.Base.Tests.{eqb-yes, eqb-no}
-use Rattle.error.specs.Read.{read}
+use Rattle.error.specs.Read.{said, read}
 use Rattle.error.specs.declared.Answer.the-variants.{At, No}
 use Rattle.search.proofs.Runs.{run-end, run-stop, run-go}
 
@@ -49,12 +49,12 @@ skip-takes w = refl
 
 -- R takes k bytes at a place, up to e
 module _ (n : Refusal) (R : Reader) (s : List ℕ) (at k e : ℕ) (r : R (drop at s) ≡ ok k) (h : e ≡ at + k) where
-  pub required-none : (m : ℕ) → e ≡ at → m ≡ number n → No m at ≡ read (required n R) s at
-  unfolding read required
+  pub required-none : (m : ℕ) → e ≡ at → m ≡ number n → said (No m at) ≡ read (required n R) s at
+  unfolding read said required
   required-none m z f = let y : k ≡ 0 = omega arith in rw (r, eqb-yes k 0 y, f, add-zero)
 
-  pub required-some : (e ≡ at → ⊥) → At e ≡ read (required n R) s at
-  unfolding read required
+  pub required-some : (e ≡ at → ⊥) → said (At e) ≡ read (required n R) s at
+  unfolding read said required
   required-some z = rw (r, eqb-no k 0 (λ (y : k ≡ 0). z (omega arith)), h)
 
 -- what the loop over white space searches, and what asks for some

@@ -7,7 +7,7 @@ ghost use lib.ListN.{drop};
 ghost use Rattle.spec.specs.Grammar.Characters.{space};
 ghost use Rattle.spec.specs.Reading.Readers.{run};
 ghost use Rattle.spec.specs.Reading.Dtd.{require-s};
-ghost use Rattle.error.specs.Read.{read};
+ghost use Rattle.error.specs.Read.{said, read};
 
 // One byte of production 3, S.
 fn is_space(b: u8) -> bool
@@ -33,7 +33,7 @@ pub fn skip_s(s: &[u8], at: usize) -> usize
 
 // S, at least one byte of it.
 pub fn require_s(s: &[u8], at: usize) -> Answer
-    ensures { λ r. ⌜ r ≡ read require-s (now (s .entry)) at ⌝ }
+    ensures { λ r. ⌜ said r ≡ read require-s (now (s .entry)) at ⌝ }
 {
     let e = skip_s(s, at);
     if e == at {

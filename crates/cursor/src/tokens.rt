@@ -10,12 +10,12 @@ use search::find_byte;
 ghost use mathlib.Core.Path.{_≡_};
 ghost use Rattle.spec.specs.Reading.Wellformed.{name};
 ghost use Rattle.spec.specs.Reading.Dtd.{nmtoken, ncname};
-ghost use Rattle.error.specs.Read.{read};
+ghost use Rattle.error.specs.Read.{said, read};
 ghost use Rattle.classes.specs.Classes.{dialect};
 
 // [5] Name. Where none begins, the part is empty.
 pub fn need_name(s: &[u8], at: usize, names: Names) -> Answer
-    ensures { λ r. ⌜ r ≡ read (name (dialect names)) (now (s .entry)) at ⌝ }
+    ensures { λ r. ⌜ said r ≡ read (name (dialect names)) (now (s .entry)) at ⌝ }
 {
     let part = parse_name(s, at, names);
     if part.len() == 0 {
@@ -26,7 +26,7 @@ pub fn need_name(s: &[u8], at: usize, names: Names) -> Answer
 
 // [7] Nmtoken, a name character or more.
 pub fn need_nmtoken(s: &[u8], at: usize, names: Names) -> Answer
-    ensures { λ r. ⌜ r ≡ read (nmtoken (dialect names)) (now (s .entry)) at ⌝ }
+    ensures { λ r. ⌜ said r ≡ read (nmtoken (dialect names)) (now (s .entry)) at ⌝ }
 {
     let e = name_chars_end(s, at, names);
     if e == at {
@@ -37,7 +37,7 @@ pub fn need_nmtoken(s: &[u8], at: usize, names: Names) -> Answer
 
 // NCName of Namespaces: a Name, and reject_colon on it.
 pub fn need_ncname(s: &[u8], at: usize, names: Names) -> Answer
-    ensures { λ r. ⌜ r ≡ read (ncname (dialect names)) (now (s .entry)) at ⌝ }
+    ensures { λ r. ⌜ said r ≡ read (ncname (dialect names)) (now (s .entry)) at ⌝ }
 {
     let part = parse_name(s, at, names);
     if part.len() == 0 {

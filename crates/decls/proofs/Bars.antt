@@ -12,8 +12,7 @@ use Rattle.spec.specs.Reading.Wellformed.{name}
 use Rattle.spec.specs.Reading.Dtd.{nmtoken}
 use Rattle.spec.proofs.Base.Loops.{Somes}
 use Rattle.spec.proofs.Base.Somes.{some-word, some-then}
-use Rattle.error.specs.Read.{read}
-use Rattle.error.specs.declared.Answer.{Answer}
+use Rattle.error.specs.Read.{Said, read}
 use Rattle.search.proofs.Words.{word-then, word-fits}
 use Rattle.cursor.proofs.Reading.{reading}
 use Rattle.decls.specs.Items.{item-of}
@@ -22,12 +21,12 @@ use Rattle.decls.specs.declared.lists.Item.the-variants.{Name, Nmtoken}
 use Rattle.error.proofs.Whiles.{whiles}
 
 -- an item as its kind is
-module _ (D : Dialect) (item : Item) (s : List ℕ) (at : ℕ) (r : Answer) where
-  pub item-name : item ≡ Name → r ≡ read (name D) s at → r ≡ read (item-of D item) s at
+module _ (D : Dialect) (item : Item) (s : List ℕ) (at : ℕ) (q : Said) where
+  pub item-name : item ≡ Name → q ≡ read (name D) s at → q ≡ read (item-of D item) s at
   unfolding item-of
   item-name e a = rw (e, a)
 
-  pub item-nmtoken : item ≡ Nmtoken → r ≡ read (nmtoken D) s at → r ≡ read (item-of D item) s at
+  pub item-nmtoken : item ≡ Nmtoken → q ≡ read (nmtoken D) s at → q ≡ read (item-of D item) s at
   unfolding item-of
   item-nmtoken e a = rw (e, a)
 

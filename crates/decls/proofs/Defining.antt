@@ -1,5 +1,5 @@
 -- The definitions of an attribute list, one after the other. Assumes nothing.
-use mathlib.Core.Path.{_≡_, refl, sym, _∙_}
+use mathlib.Core.Path.{_≡_, refl, sym, ap, _∙_}
 use mathlib.Core.Bool.{Bool, true, false}
 use mathlib.Core.List.{List, [], _∷_}
 use Prim.Native.Nat.{ℕ, _<_}
@@ -14,7 +14,7 @@ use Rattle.spec.specs.Reading.Dtd.{skip-s, require-s, parse-att-def}
 use Rattle.spec.proofs.Base.Loops.{Somes}
 use Rattle.spec.proofs.Base.Results.{err-ok, ok-inj}
 use Rattle.spec.proofs.Base.Somes.{some-then}
-use Rattle.error.specs.Read.{read}
+use Rattle.error.specs.Read.{said, read}
 use Rattle.error.specs.declared.Answer.{Answer}
 use Rattle.error.specs.declared.Answer.the-variants.{At}
 use Rattle.cursor.proofs.Reading.{skip-only}
@@ -43,7 +43,7 @@ unfolding parse-att-def require-s
 some-att-def D = some-then (required no-space skip-s) _ (some-required no-space skip-s)
 
 -- what a turn of the loop answered
-pub turn-at : (R : Reader) (s : List ℕ) (i j : ℕ) (r : Answer) → r ≡ At j → r ≡ read R s i → At j ≡ read R s i
-turn-at R s i j r e a = sym e ∙ a
+pub turn-at : (R : Reader) (s : List ℕ) (i j : ℕ) (r : Answer) → r ≡ At j → said r ≡ read R s i → said (At j) ≡ read R s i
+turn-at R s i j r e a = sym (ap said e) ∙ a
 
 pub ruleset defining = (left-ends, some-att-def, turn-at, skip-only, whiles)

@@ -16,10 +16,10 @@ use Rattle.spec.specs.Reading.Refusals.{Refusal, number, unexpected}
 use Rattle.spec.specs.Reading.Readers.{ok, Reader, refuse, starts, choose, on, word-of}
 use Rattle.spec.specs.Reading.Dtd.{tokenized, word-among}
 use Rattle.spec.proofs.Base.Places.{drop-at, drop-end}
-use Rattle.error.specs.Read.{read, placed, eaten}
+use Rattle.error.specs.Read.{Said, said, placed, read, eaten}
 use Rattle.error.specs.declared.Answer.{Answer}
 use Rattle.error.specs.declared.Answer.the-variants.{At, No}
-use Rattle.error.proofs.Laws.{At≢No, refused, ate-only, ate-not}
+use Rattle.error.proofs.Laws.{passed≢refused, refuses, ate-only, ate-not}
 use Rattle.cursor.proofs.Reading.{reading}
 
 -- the first row that stands, tried in order
@@ -70,30 +70,30 @@ module _ (flat lens : List ℕ) (k from : ℕ) (l : length lens ≡ 8) (f : leng
   pub row-in : from + getD lens k 0 ≤ length flat
   row-in = let z = row-room in omega arith
 
--- r is what eat_str gave for it, and W the whole answer
-module _ (flat lens s : List ℕ) (at k from m : ℕ) (r W : Answer) (l : length lens ≡ 8) (h : k < 8) (inv : read (rows (drop k lens) (drop from flat)) s at ≡ W) (a : r ≡ eaten (take (from + getD lens k 0 - from) (drop from flat)) m s at) where
+-- r is what eat_str gave for it, and W what is said of the whole
+module _ (flat lens s : List ℕ) (at k from m : ℕ) (r : Answer) (W : Said) (l : length lens ≡ 8) (h : k < 8) (inv : read (rows (drop k lens) (drop from flat)) s at ≡ W) (a : said r ≡ eaten (take (from + getD lens k 0 - from) (drop from flat)) m s at) where
   abbrev row : List ℕ
   row = take (getD lens k 0) (drop from flat)
 
   abbrev others : Reader
   others = rows (drop (k + 1) lens) (drop (from + getD lens k 0) flat)
 
-  ate-row : r ≡ eaten row m s at
+  ate-row : said r ≡ eaten row m s at
   ate-row = let n : from + getD lens k 0 - from ≡ getD lens k 0 = omega arith in rw n at a
 
   whole : read (choose (starts row) (word-of row unexpected) others) s at ≡ W
   unfolding rows
   whole = rw (drop-at lens k (rw l h), drop-drop) at inv
 
-  pub row-is : (e : ℕ) → r ≡ At e → At e ≡ W
+  pub row-is : (e : ℕ) → r ≡ At e → said (At e) ≡ W
   row-is e g = ate-only row m s at r ate-row others unexpected e g ∙ whole
 
   pub row-not : (n i : ℕ) → r ≡ No n i → read (rows (drop (k + 1) lens) (drop (from + getD lens k 0) flat)) s at ≡ W
   row-not n i g = ate-not row m s at r ate-row (word-of row unexpected) others n i (read others s at) g refl ∙ whole
 
-pub row-none : (flat lens s : List ℕ) (at k from m : ℕ) (W : Answer) → length lens ≡ 8 → 8 ≤ k → read (rows (drop k lens) (drop from flat)) s at ≡ W → m ≡ number unexpected → No m at ≡ W
+pub row-none : (flat lens s : List ℕ) (at k from m : ℕ) (W : Said) → length lens ≡ 8 → 8 ≤ k → read (rows (drop k lens) (drop from flat)) s at ≡ W → m ≡ number unexpected → said (No m at) ≡ W
 unfolding rows
-row-none flat lens s at k from m W l h inv e = refused unexpected m s at e ∙ (rw (drop-end lens k (rw l h)) at inv)
+row-none flat lens s at k from m W l h inv e = refuses unexpected m s at e ∙ (rw (drop-end lens k (rw l h)) at inv)
 
 pub ruleset tabled = (rows-all, rows-room, row-room, row-fits, row-in, row-is, row-not, row-none, needs)
 
@@ -110,21 +110,21 @@ among (x ∷ ss) w = go (starts (ascii x) w) refl (among ss w)
     go false e (inr f) = inr (λ q. unfold on choose in (rw e (f q)))
 
 -- r is what was read where the words stand alone
-module _ (ss : List String) (n : Refusal) (q : Reader) (s : List ℕ) (at : ℕ) (r : Answer) (a : r ≡ read (word-among ss (refuse n)) s at) where
-  pub among-yes : (i : ℕ) → r ≡ At i → At i ≡ read (word-among ss q) s at
-  unfolding read refuse
+module _ (ss : List String) (n : Refusal) (q : Reader) (s : List ℕ) (at : ℕ) (r : Answer) (a : said r ≡ read (word-among ss (refuse n)) s at) where
+  pub among-yes : (i : ℕ) → r ≡ At i → said (At i) ≡ read (word-among ss q) s at
+  unfolding read said refuse
   among-yes i e = go (among ss (drop at s))
     where
-      go : ((k : ℕ) × ((p : Reader) → word-among ss p (drop at s) ≡ ok k)) ⊎ ((p : Reader) → word-among ss p (drop at s) ≡ p (drop at s)) → At i ≡ read (word-among ss q) s at
-      go (inl (k, f)) = sym e ∙ a ∙ (rw (f (refuse n), f q))
-      go (inr f) = absurd (At≢No (sym e ∙ a ∙ ap (placed at) (f (refuse n))))
+      go : ((k : ℕ) × ((p : Reader) → word-among ss p (drop at s) ≡ ok k)) ⊎ ((p : Reader) → word-among ss p (drop at s) ≡ p (drop at s)) → said (At i) ≡ read (word-among ss q) s at
+      go (inl (k, f)) = sym (ap said e) ∙ a ∙ (rw (f (refuse n), f q))
+      go (inr f) = absurd (passed≢refused (sym (ap said e) ∙ a ∙ ap (placed at) (f (refuse n))))
 
-  pub among-no : (k i : ℕ) (b : Answer) → r ≡ No k i → b ≡ read q s at → b ≡ read (word-among ss q) s at
-  unfolding read refuse
+  pub among-no : (k i : ℕ) (b : Said) → r ≡ No k i → b ≡ read q s at → b ≡ read (word-among ss q) s at
+  unfolding read said refuse
   among-no k i b e g = go (among ss (drop at s))
     where
       go : ((k : ℕ) × ((p : Reader) → word-among ss p (drop at s) ≡ ok k)) ⊎ ((p : Reader) → word-among ss p (drop at s) ≡ p (drop at s)) → b ≡ read (word-among ss q) s at
-      go (inl (j, f)) = absurd (At≢No (sym (ap (placed at) (f (refuse n))) ∙ sym a ∙ e))
+      go (inl (j, f)) = absurd (passed≢refused (sym (ap (placed at) (f (refuse n))) ∙ sym a ∙ ap said e))
       go (inr f) = g ∙ (rw (f q))
 
 -- what the type of an attribute searches

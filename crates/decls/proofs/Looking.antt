@@ -14,8 +14,7 @@ use Rattle.spec.specs.Grammar.Languages.{ascii}
 use Rattle.spec.specs.Reading.Readers.{Reader, starts, choose, on, run}
 use Rattle.spec.specs.Reading.Dtd.{on-quote}
 use Rattle.spec.proofs.Base.Tests.{decide, leb-yes, leb-true, or-cases, or-false-left, or-false-right}
-use Rattle.error.specs.Read.{read}
-use Rattle.error.specs.declared.Answer.{Answer}
+use Rattle.error.specs.Read.{Said, read}
 use Rattle.cursor.proofs.Reading.{reading}
 use Rattle.decls.specs.Pieces.{more-left, quote-next, ndata-next, spaced}
 
@@ -52,17 +51,17 @@ pub quote-is : (a b : Bool) (w : List ℕ) → a ≡ starts (ascii "\"") w → b
 quote-is a b w e f = rw (e, f)
 
 -- a quote mark is next or not, as b says
-module _ (A B : Reader) (s : List ℕ) (at : ℕ) (b : Bool) (r : Answer) (e : b ≡ quote-next (drop at s)) where
-  pub quote-yes : b ≡ true → r ≡ read A s at → r ≡ read (on-quote A B) s at
+module _ (A B : Reader) (s : List ℕ) (at : ℕ) (b : Bool) (q : Said) (e : b ≡ quote-next (drop at s)) where
+  pub quote-yes : b ≡ true → q ≡ read A s at → q ≡ read (on-quote A B) s at
   unfolding read on-quote on choose
   quote-yes f a = go (or-cases (starts (ascii "\"") (drop at s)) (starts (ascii "'") (drop at s)) (sym e ∙ f)) (starts (ascii "\"") (drop at s)) refl
     where
-      go : (starts (ascii "\"") (drop at s) ≡ true) ⊎ (starts (ascii "'") (drop at s) ≡ true) → (t : Bool) → starts (ascii "\"") (drop at s) ≡ t → r ≡ read (on-quote A B) s at
+      go : (starts (ascii "\"") (drop at s) ≡ true) ⊎ (starts (ascii "'") (drop at s) ≡ true) → (t : Bool) → starts (ascii "\"") (drop at s) ≡ t → q ≡ read (on-quote A B) s at
       go x true g = a ∙ (rw g)
       go (inl y) false g = a ∙ (rw y)
       go (inr y) false g = a ∙ (rw (g, y))
 
-  pub quote-no : b ≡ false → r ≡ read B s at → r ≡ read (on-quote A B) s at
+  pub quote-no : b ≡ false → q ≡ read B s at → q ≡ read (on-quote A B) s at
   unfolding read on-quote on choose
   quote-no f a =
       a ∙ (rw (or-false-left (starts (ascii "\"") (drop at s)) (starts (ascii "'") (drop at s)) (sym e ∙ f), or-false-right (starts (ascii "\"") (drop at s)) (starts (ascii "'") (drop at s)) (sym e ∙ f)))

@@ -15,7 +15,7 @@ ghost use lib.ListN.{drop};
 ghost use Rattle.spec.specs.Reading.Refusals.{unexpected};
 ghost use Rattle.spec.specs.Reading.Readers.{refuse};
 ghost use Rattle.spec.specs.Reading.Dtd.{tokenized, word-among, parse-att-type, parse-default-decl, parse-att-def, parse-attlist-decl};
-ghost use Rattle.error.specs.Read.{read};
+ghost use Rattle.error.specs.Read.{said, read};
 ghost use Rattle.classes.specs.Classes.{dialect};
 ghost use Rattle.decls.specs.Pieces.{notation-names, fixed, more-left, att-defs};
 
@@ -27,7 +27,7 @@ const LENGTHS: [usize; 8] = [5, 6, 5, 2, 6, 8, 8, 7];
 
 // [55] StringType and [56] TokenizedType: the place after the first keyword of the table that stands here.
 fn parse_tokenized(s: &[u8], at: usize) -> Answer
-    ensures { λ r. ⌜ r ≡ read (word-among tokenized (refuse unexpected)) (now (s .entry)) at ⌝ }
+    ensures { λ r. ⌜ said r ≡ read (word-among tokenized (refuse unexpected)) (now (s .entry)) at ⌝ }
 {
     let keywords = KEYWORDS;
     let lengths = LENGTHS;
@@ -47,7 +47,7 @@ fn parse_tokenized(s: &[u8], at: usize) -> Answer
 
 // [58] NotationType, after its keyword.
 fn parse_notation_names(s: &[u8], at: usize, names: Names) -> Answer
-    ensures { λ r. ⌜ r ≡ read (notation-names (dialect names)) (now (s .entry)) at ⌝ }
+    ensures { λ r. ⌜ said r ≡ read (notation-names (dialect names)) (now (s .entry)) at ⌝ }
 {
     let r = require_s(s, at);
     let Answer::At(i) = r else {
@@ -58,7 +58,7 @@ fn parse_notation_names(s: &[u8], at: usize, names: Names) -> Answer
 
 // [54] AttType.
 pub fn parse_att_type(s: &[u8], at: usize, names: Names) -> Answer
-    ensures { λ r. ⌜ r ≡ read (parse-att-type (dialect names)) (now (s .entry)) at ⌝ }
+    ensures { λ r. ⌜ said r ≡ read (parse-att-type (dialect names)) (now (s .entry)) at ⌝ }
 {
     let r = eat_str(s, at, b"NOTATION", UNEXPECTED);
     if let Answer::At(i) = r {
@@ -76,7 +76,7 @@ pub fn parse_att_type(s: &[u8], at: usize, names: Names) -> Answer
 
 // ('#FIXED' S)? of [60] DefaultDecl.
 fn parse_fixed(s: &[u8], at: usize) -> Answer
-    ensures { λ r. ⌜ r ≡ read fixed (now (s .entry)) at ⌝ }
+    ensures { λ r. ⌜ said r ≡ read fixed (now (s .entry)) at ⌝ }
 {
     let r = eat_str(s, at, b"#FIXED", UNEXPECTED);
     let Answer::At(i) = r else {
@@ -87,7 +87,7 @@ fn parse_fixed(s: &[u8], at: usize) -> Answer
 
 // [60] DefaultDecl.
 pub fn parse_default_decl(s: &[u8], at: usize) -> Answer
-    ensures { λ r. ⌜ r ≡ read parse-default-decl (now (s .entry)) at ⌝ }
+    ensures { λ r. ⌜ said r ≡ read parse-default-decl (now (s .entry)) at ⌝ }
 {
     let r = eat_str(s, at, b"#REQUIRED", UNEXPECTED);
     if let Answer::At(i) = r {
@@ -106,7 +106,7 @@ pub fn parse_default_decl(s: &[u8], at: usize) -> Answer
 
 // [53] AttDef, with the white space before it.
 pub fn parse_att_def(s: &[u8], at: usize, names: Names) -> Answer
-    ensures { λ r. ⌜ r ≡ read (parse-att-def (dialect names)) (now (s .entry)) at ⌝ }
+    ensures { λ r. ⌜ said r ≡ read (parse-att-def (dialect names)) (now (s .entry)) at ⌝ }
 {
     let r = require_s(s, at);
     let Answer::At(i) = r else {
@@ -140,7 +140,7 @@ fn is_more_left(s: &[u8], at: usize) -> bool
 
 // The definitions, and the white space after the last.
 fn parse_att_defs(s: &[u8], at: usize, names: Names) -> Answer
-    ensures { λ r. ⌜ r ≡ read (att-defs (dialect names)) (now (s .entry)) at ⌝ }
+    ensures { λ r. ⌜ said r ≡ read (att-defs (dialect names)) (now (s .entry)) at ⌝ }
 {
     let mut i = at;
     while is_more_left(s, i) {
@@ -155,7 +155,7 @@ fn parse_att_defs(s: &[u8], at: usize, names: Names) -> Answer
 
 // [52] AttlistDecl between its keyword and its '>'.
 pub fn parse_attlist_decl(body: &[u8], at: usize, names: Names) -> Answer
-    ensures { λ r. ⌜ r ≡ read (parse-attlist-decl (dialect names)) (now (body .entry)) at ⌝ }
+    ensures { λ r. ⌜ said r ≡ read (parse-attlist-decl (dialect names)) (now (body .entry)) at ⌝ }
 {
     let r = require_s(body, at);
     let Answer::At(i) = r else {

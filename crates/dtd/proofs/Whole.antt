@@ -17,15 +17,14 @@ use Rattle.spec.proofs.Characters.AppendixB.{appendix-B-ascii}
 use Rattle.spec.proofs.Division.Promised.{doctype-promise}
 use Rattle.spec.proofs.Dtd.Texts.{doctype-agrees}
 use Rattle.spec.proofs.Inside.Checks.{Placed, doctype-placed}
-use Rattle.error.specs.Read.{read}
-use Rattle.error.specs.declared.Answer.{Answer}
+use Rattle.error.specs.Read.{Said, read}
 use Rattle.source.proofs.Admitting.{call-refused, call-answered}
 use Rattle.source.proofs.Placing.{stopping}
 use Rattle.cursor.proofs.Reading.{reading}
 use Rattle.dtd.specs.Parts.{id-part}
 
 -- an external identifier stands at a place, by either of its words, or none does
-module _ (s : List ℕ) (at : ℕ) (a b : Bool) (e : a ≡ starts (ascii "SYSTEM") (drop at s)) (f : b ≡ starts (ascii "PUBLIC") (drop at s)) (q : Answer) where
+module _ (s : List ℕ) (at : ℕ) (a b : Bool) (e : a ≡ starts (ascii "SYSTEM") (drop at s)) (f : b ≡ starts (ascii "PUBLIC") (drop at s)) (q : Said) where
   pub id-yes : (a || b) ≡ true → q ≡ read (parse-external-id >> skip-s) s at → q ≡ read id-part s at
   unfolding read choose id-part
   id-yes g h = rw (sym e, sym f, g) h

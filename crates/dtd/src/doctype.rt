@@ -20,13 +20,13 @@ ghost use Rattle.spec.specs.Grammar.AppendixB.{appendix-B};
 ghost use Rattle.spec.specs.Reading.Dtd.{check-doctype};
 ghost use Rattle.spec.specs.Reading.Readers.{number-of};
 ghost use Rattle.spec.specs.Promises.{ChecksDoctype, Stops};
-ghost use Rattle.error.specs.Read.{read};
+ghost use Rattle.error.specs.Read.{said, read};
 ghost use Rattle.classes.specs.Classes.{dialect};
 ghost use Rattle.dtd.specs.Parts.{id-part, subset-part};
 
 // (S ExternalID)? of [28], the white space before it passed, and the white space after it
 fn parse_id_part(s: &[u8], at: usize) -> Answer
-    ensures { λ r. ⌜ r ≡ read id-part (now (s .entry)) at ⌝ }
+    ensures { λ r. ⌜ said r ≡ read id-part (now (s .entry)) at ⌝ }
 {
     if at_keyword(s, at, b"SYSTEM") | at_keyword(s, at, b"PUBLIC") {
         let r = parse_external_id(s, at);
@@ -40,7 +40,7 @@ fn parse_id_part(s: &[u8], at: usize) -> Answer
 
 // ('[' intSubset ']' S?)? of [28]
 fn parse_subset_part(s: &[u8], at: usize, names: Names) -> Answer
-    ensures { λ r. ⌜ r ≡ read (subset-part (dialect names)) (now (s .entry)) at ⌝ }
+    ensures { λ r. ⌜ said r ≡ read (subset-part (dialect names)) (now (s .entry)) at ⌝ }
 {
     let r = eat_str(s, at, b"[", UNEXPECTED);
     let Answer::At(i) = r else {
@@ -55,7 +55,7 @@ fn parse_subset_part(s: &[u8], at: usize, names: Names) -> Answer
 
 // [28] doctypedecl, what stands between `<!DOCTYPE` and its `>`
 fn parse_doctype(s: &[u8], names: Names) -> Answer
-    ensures { λ r. ⌜ r ≡ read (check-doctype (dialect names)) (now (s .entry)) 0 ⌝ }
+    ensures { λ r. ⌜ said r ≡ read (check-doctype (dialect names)) (now (s .entry)) 0 ⌝ }
 {
     let i = skip_s(s, 0);
     let r = need_name(s, i, names);

@@ -11,7 +11,7 @@ use lib.Seq.{drop-drop}
 use Rattle.spec.specs.Reading.Readers.{Result, ok, err, Reader, on-ok, past, _>>_, while}
 use Rattle.spec.proofs.Base.Loops.{Somes, while-turn, while-stop, while-refused}
 use Rattle.spec.proofs.Base.Results.{past-past}
-use Rattle.error.specs.Read.{read, placed}
+use Rattle.error.specs.Read.{Said, said, read, placed}
 use Rattle.error.specs.declared.Answer.{Answer}
 use Rattle.error.specs.declared.Answer.the-variants.{At, No}
 use Rattle.error.proofs.Laws.{was-ok, seq-no, seq-at}
@@ -48,14 +48,14 @@ module _ (t : List ℕ → Bool) (r : Reader) (ends : t [] ≡ false) (some : So
   unroll-then B w e = rw (← then-then r (while t r) B w) (unfold _>>_ in (rw (unroll w e)))
 
 -- at a place, where the first turn stands before the loop
-pub while-first : (t : List ℕ → Bool) (r B : Reader) (s : List ℕ) (i : ℕ) (b : Bool) (q : Answer) → t [] ≡ false → Somes r → b ≡ t (drop i s) → b ≡ true → q ≡ read (while t r >> B) s i → q ≡ read (r >> while t r >> B) s i
+pub while-first : (t : List ℕ → Bool) (r B : Reader) (s : List ℕ) (i : ℕ) (b : Bool) (q : Said) → t [] ≡ false → Somes r → b ≡ t (drop i s) → b ≡ true → q ≡ read (while t r >> B) s i → q ≡ read (r >> while t r >> B) s i
 unfolding read
 while-first t r B s i b q ends some e f a = a ∙ ap (placed i) (unroll-then t r ends some B (drop i s) (sym e ∙ f))
 
--- The invariant: the answer from i on is the whole answer W. b is what the code's test says at i.
-module _ (t : List ℕ → Bool) (r B : Reader) (s : List ℕ) (i : ℕ) (W : Answer) (inv : read (while t r >> B) s i ≡ W) (b : Bool) (e : b ≡ t (drop i s)) where
-  pub while-end : (q : Answer) → b ≡ false → q ≡ read B s i → q ≡ W
-  while-end q f a = seq-at (while t r) B s i i (At i) q (unfold read in (rw (while-stop t r (drop i s) (sym e ∙ f), add-zero))) refl a ∙ inv
+-- The invariant: what is said from i on is W, what is said of the whole. b is what the code's test says at i.
+module _ (t : List ℕ → Bool) (r B : Reader) (s : List ℕ) (i : ℕ) (W : Said) (inv : read (while t r >> B) s i ≡ W) (b : Bool) (e : b ≡ t (drop i s)) where
+  pub while-end : (q : Said) → b ≡ false → q ≡ read B s i → q ≡ W
+  while-end q f a = seq-at (while t r) B s i i (At i) q (unfold read said in (rw (while-stop t r (drop i s) (sym e ∙ f), add-zero))) refl a ∙ inv
 
   module _ (f : b ≡ true) (ends : t [] ≡ false) where
     inside : i < length s
@@ -69,13 +69,13 @@ module _ (t : List ℕ → Bool) (r B : Reader) (s : List ℕ) (i : ℕ) (W : An
       turned : read (r >> while t r >> B) s i ≡ W
       turned = sym (while-first t r B s i b _ ends some e f refl) ∙ inv
 
-      pub while-no : (n k : ℕ) (a : Answer) → a ≡ No n k → a ≡ read r s i → a ≡ W
+      pub while-no : (n k : ℕ) (a : Answer) → a ≡ No n k → said a ≡ read r s i → said a ≡ W
       while-no n k a g h = seq-no r (while t r >> B) s i n k a h g ∙ turned
 
-      pub while-err : (n k : ℕ) → No n k ≡ read r s i → No n k ≡ W
+      pub while-err : (n k : ℕ) → said (No n k) ≡ read r s i → said (No n k) ≡ W
       while-err n k h = while-no n k (No n k) refl h
 
-      module _ (j : ℕ) (h : At j ≡ read r s i) where
+      module _ (j : ℕ) (h : said (At j) ≡ read r s i) where
         pub while-go : read (while t r >> B) s j ≡ W
         while-go = seq-at r (while t r >> B) s i j (At j) _ h refl refl ∙ turned
 

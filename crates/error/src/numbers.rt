@@ -2,7 +2,7 @@
 use crate::Answer;
 use crate::Stop;
 ghost use mathlib.Core.Path.{_≡_};
-ghost use Rattle.error.specs.Numbers.{answer-number, answer-stop};
+ghost use Rattle.error.specs.Read.{answer-number, answer-stop};
 
 pub fn number(a: Answer) -> u8
     ensures { λ r. ⌜ r ≡ answer-number a ⌝ }

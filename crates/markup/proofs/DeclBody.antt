@@ -17,7 +17,7 @@ use Rattle.spec.specs.Reading.Readers.{starts, begins, contains, before}
 use Rattle.spec.specs.Reading.Dtd.{take-decl-body, has-pe-reference}
 use Rattle.spec.proofs.Agreement.Words.{starts-split}
 use Rattle.spec.proofs.Base.Places.{drop-end}
-use Rattle.error.specs.Read.{read}
+use Rattle.error.specs.Read.{passed, said, read}
 use Rattle.error.specs.declared.Answer.the-variants.{At, No}
 use Rattle.utf8.proofs.Points.{points}
 use Rattle.search.specs.FirstPlace.{first-place}
@@ -30,13 +30,13 @@ use Rattle.search.proofs.Placing.{from-nowhere, from-here}
 
 -- r is what is found of the '>' that ends a body
 module _ (s : List ℕ) (i : ℕ) (r : Found) (a : r ≡ place-from (outside (either 62 62) 0) s i) where
-  pub body-open : (m : ℕ) → r ≡ Nowhere → m ≡ number unterminated → No m i ≡ read take-decl-body s i
-  unfolding read take-decl-body
+  pub body-open : (m : ℕ) → r ≡ Nowhere → m ≡ number unterminated → said (No m i) ≡ read take-decl-body s i
+  unfolding read said take-decl-body
   body-open m b e = rw (← outside-one, from-nowhere (outside (either 62 62) 0) s i r a b, e, add-zero)
 
-  pub body-end : (j : ℕ) → r ≡ Here j → At j ≡ read take-decl-body s i
-  unfolding read take-decl-body
-  body-end j b = let (n, f, g) = from-here (outside (either 62 62) 0) s i r a j b in ap At g ∙ (rw (← outside-one, f))
+  pub body-end : (j : ℕ) → r ≡ Here j → said (At j) ≡ read take-decl-body s i
+  unfolding read said take-decl-body
+  body-end j b = let (n, f, g) = from-here (outside (either 62 62) 0) s i r a j b in ap passed g ∙ (rw (← outside-one, f))
 
 -- A parameter-entity reference: the bytes before the first '%' do not decide.
 pe-none : (D : Dialect) (w : List ℕ) → contains (37 ∷ []) w ≡ false → has-pe-reference D w ≡ false

@@ -18,7 +18,7 @@ use Rattle.spec.specs.Reading.Dtd.{reserved, check-target, check-pi}
 use Rattle.spec.proofs.Base.Places.{drop-end, run-within, take-rest}
 use Rattle.spec.proofs.Base.Results.{ok-inj, err-ok, then-ok}
 use Rattle.spec.proofs.Wellformed.LongestName.{Named, a-name, no-name, named, name-within}
-use Rattle.error.specs.Read.{read}
+use Rattle.error.specs.Read.{Said, said, read}
 use Rattle.error.specs.declared.Answer.{Answer}
 use Rattle.error.specs.declared.Answer.the-variants.{At, No}
 use Rattle.error.proofs.Laws.{was-ok, was-err}
@@ -30,8 +30,8 @@ use Rattle.search.proofs.Runs.{run-end, run-stop, run-go}
 use Rattle.cursor.proofs.Reading.{left-of}
 
 -- a target: its name first, then its colon, then "xml"; r is what is read as a name to the text's end
-module _ (D : Dialect) (t : List ℕ) (at : ℕ) (r : Answer) (a : r ≡ read (check-name D) t at) where
-  pub target-unnamed : (m k : ℕ) → r ≡ No m k → r ≡ read (check-target D) t at
+module _ (D : Dialect) (t : List ℕ) (at : ℕ) (r : Answer) (a : said r ≡ read (check-name D) t at) where
+  pub target-unnamed : (m k : ℕ) → r ≡ No m k → said r ≡ read (check-target D) t at
   unfolding read check-target
   target-unnamed m k e = let (n, (j, (f, g))) = was-err (check-name D) t at m k r a e in g ∙ (rw f)
 
@@ -54,8 +54,8 @@ module _ (D : Dialect) (t : List ℕ) (at : ℕ) (r : Answer) (a : r ≡ read (c
 
     -- c is where a colon stands in it
     module _ (c : Found) (d : c ≡ first-place (ascii ":") t at) where
-      pub target-colon : (j m : ℕ) → c ≡ Here j → m ≡ number has-colon → No m j ≡ read (check-target D) t at
-      unfolding read check-target
+      pub target-colon : (j m : ℕ) → c ≡ Here j → m ≡ number has-colon → said (No m j) ≡ read (check-target D) t at
+      unfolding read said check-target
       target-colon j m y f =
           let (k, g) = named-all in
           let (i, l) = was-here (ascii ":") t at c d j y in
@@ -65,12 +65,12 @@ module _ (D : Dialect) (t : List ℕ) (at : ℕ) (r : Answer) (a : r ≡ read (c
         is-reserved : x ≡ reserved (drop at t)
         is-reserved = i ∙ (rw (take-rest t at))
 
-        pub target-reserved : (m : ℕ) → x ≡ true → m ≡ number reserved-target → No m at ≡ read (check-target D) t at
-        unfolding read check-target
+        pub target-reserved : (m : ℕ) → x ≡ true → m ≡ number reserved-target → said (No m at) ≡ read (check-target D) t at
+        unfolding read said check-target
         target-reserved m y f = let (k, g) = named-all in rw (g, was-nowhere (ascii ":") t at c d n, sym is-reserved ∙ y, f, add-zero)
 
-        pub target-taken : x ≡ false → At at ≡ read (check-target D) t at
-        unfolding read check-target
+        pub target-taken : x ≡ false → said (At at) ≡ read (check-target D) t at
+        unfolding read said check-target
         target-taken y = let (k, g) = named-all in rw (g, was-nowhere (ascii ":") t at c d n, sym is-reserved ∙ y, add-zero)
 
 -- the target "xml", by its three bytes
@@ -110,12 +110,12 @@ module _ (w : List ℕ) (at i : ℕ) (inv : i + run (none-of " \t\r\n") (drop i 
 pub target-within : (p : ℕ → Bool) (w : List ℕ) (at e : ℕ) → e ≡ at + run p (drop at w) → at ≤ length w → e ≤ length w
 target-within p w at e f h = omega (arith, run-within p (drop at w), length-drop at w)
 
-pub target-part : (D : Dialect) (w : List ℕ) (at e : ℕ) (q : Answer) → e ≡ at + run (none-of " \t\r\n") (drop at w) → q ≡ read (check-target D) (take (e - 0) (drop 0 w)) at → q ≡ read (check-pi D) w at
+pub target-part : (D : Dialect) (w : List ℕ) (at e : ℕ) (q : Said) → e ≡ at + run (none-of " \t\r\n") (drop at w) → q ≡ read (check-target D) (take (e - 0) (drop 0 w)) at → q ≡ read (check-pi D) w at
 unfolding read check-pi
 target-part D w at e q f g = g ∙ (let z : e - at ≡ run (none-of " \t\r\n") (drop at w) = omega arith in rw (left-of at e w, z))
 
-pub target-none : (D : Dialect) (w : List ℕ) (at m : ℕ) → length w < at → m ≡ number bad-name → No m at ≡ read (check-pi D) w at
-unfolding read check-pi check-target check-name name char decode1 _>>_ run
+pub target-none : (D : Dialect) (w : List ℕ) (at m : ℕ) → length w < at → m ≡ number bad-name → said (No m at) ≡ read (check-pi D) w at
+unfolding read said check-pi check-target check-name name char decode1 _>>_ run
 target-none D w at m h f = rw (drop-end w at (let z : length w ≤ at = omega arith in z), f, add-zero)
 
 -- what code over names and targets searches

@@ -16,7 +16,7 @@ use Rattle.spec.specs.Reading.Readers.{Result, ok, err, on-ok, nothing, refuse,
 use Rattle.spec.specs.Reading.Dtd.{check-comment}
 use Rattle.spec.proofs.Base.Tests.{T→true, no→false}
 use Rattle.spec.proofs.Agreement.Words.{starts-self, starts-split}
-use Rattle.error.specs.Read.{placed, read}
+use Rattle.error.specs.Read.{passed, said, placed, read}
 use Rattle.error.specs.declared.Answer.{Answer}
 use Rattle.error.specs.declared.Answer.the-variants.{At, No}
 use Rattle.error.proofs.Laws.{was-ok, was-err}
@@ -29,11 +29,11 @@ use Rattle.cursor.proofs.Reading.{left-of}
 
 -- the word k was looked for from a place on, which gave r; c is what the check answers where what stands before it is all there is
 module _ (k : String) (n : Refusal) (check : List ℕ → Result) (s : List ℕ) (at : ℕ) (r : Found) (a : r ≡ first-place (ascii k) s at) where
-  pub up-to-nowhere : (m : ℕ) → r ≡ Nowhere → m ≡ number n → No m at ≡ read (up-to k n check) s at
-  unfolding read up-to refuse
+  pub up-to-nowhere : (m : ℕ) → r ≡ Nowhere → m ≡ number n → said (No m at) ≡ read (up-to k n check) s at
+  unfolding read said up-to refuse
   up-to-nowhere m b e = rw (was-nowhere (ascii k) s at r a b, e, add-zero)
 
-  module _ (j : ℕ) (q : Answer) (b : r ≡ Here j) (c : q ≡ read check (take (j - 0) (drop 0 s)) at) where
+  module _ (j : ℕ) (q : Answer) (b : r ≡ Here j) (c : said q ≡ read check (take (j - 0) (drop 0 s)) at) where
     up-to-here : (x : Result) → check (drop at (take (j - 0) (drop 0 s))) ≡ x → read (up-to k n check) s at ≡ placed at (on-ok x (λ _. ok (before (ascii k) (drop at s) + length (ascii k))))
     unfolding read up-to
     up-to-here x f =
@@ -41,13 +41,14 @@ module _ (k : String) (n : Refusal) (check : List ℕ → Result) (s : List ℕ)
         let z : j - at ≡ before (ascii k) (drop at s) = omega arith in
         rw (g, ← z, ← left-of at j s, f)
 
-    pub up-to-taken : (l o : ℕ) → q ≡ At o → l ≡ length (ascii k) → At (j + l) ≡ read (up-to k n check) s at
+    pub up-to-taken : (l o : ℕ) → q ≡ At o → l ≡ length (ascii k) → said (At (j + l)) ≡ read (up-to k n check) s at
+    unfolding said
     up-to-taken l o e d =
         let (i, (f, _)) = was-ok check (take (j - 0) (drop 0 s)) at o q c e in
         let (g, h) = was-here (ascii k) s at r a j b in
         rw (up-to-here (ok i) f, d, h, add-assoc)
 
-    pub up-to-refused : (m o : ℕ) → q ≡ No m o → q ≡ read (up-to k n check) s at
+    pub up-to-refused : (m o : ℕ) → q ≡ No m o → said q ≡ read (up-to k n check) s at
     up-to-refused m o e =
         let (y, (i, (f, g))) = was-err check (take (j - 0) (drop 0 s)) at m o q c e in
         g ∙ sym (up-to-here (err y i) f)
@@ -84,28 +85,28 @@ longer p x (b ∷ w) c e = go (starts p (b ∷ w)) refl c e (longer p x w)
         rw (no→false (starts (p ++ x) (b ∷ w)) (λ z. true≢false (sym (starts-part p x (b ∷ w) (T→true _ z)) ∙ f))) (g, ap suc h)
 
 -- a comment whose first "--", at j, is that of a "-->"
-pub comment-once : (s : List ℕ) (at j : ℕ) (r : Found) (b : Bool) (n : Refusal) → r ≡ first-place (ascii "--") s at → r ≡ Here j → b ≡ starts (ascii "-->") (drop j s) → b ≡ true → At (j + 3) ≡ read (up-to "-->" n check-comment) s at
-unfolding read up-to check-comment choose nothing
+pub comment-once : (s : List ℕ) (at j : ℕ) (r : Found) (b : Bool) (n : Refusal) → r ≡ first-place (ascii "--") s at → r ≡ Here j → b ≡ starts (ascii "-->") (drop j s) → b ≡ true → said (At (j + 3)) ≡ read (up-to "-->" n check-comment) s at
+unfolding read said up-to check-comment choose nothing
 comment-once s at j r b n a d e f =
     let (c, k) = was-here (ascii "--") s at r a j d in
     let m : ℕ = before (ascii "--") (drop at s) in
     let g : starts (ascii "-->") (drop m (drop at s)) ≡ true = ap (starts (ascii "-->")) (drop-drop m at s ∙ ap (λ (i : ℕ). drop i s) (sym k)) ∙ sym e ∙ f in
     let (h, i) = longer (ascii "--") (ascii ">") (drop at s) c g in
     let z : j + 3 ≡ at + (m + 3) = omega arith in
-    ap At z ∙ (rw (h, i, none-before (ascii "--") (drop at s)))
+    ap passed z ∙ (rw (h, i, none-before (ascii "--") (drop at s)))
 
 -- the bytes p stand at a place, as b says, and the code knows how many they are
-pub word-end : (p s : List ℕ) (at l : ℕ) (b : Bool) (n : Refusal) → b ≡ starts p (drop at s) → b ≡ true → l ≡ length p → At (at + l) ≡ read (word-of p n) s at
+pub word-end : (p s : List ℕ) (at l : ℕ) (b : Bool) (n : Refusal) → b ≡ starts p (drop at s) → b ≡ true → l ≡ length p → said (At (at + l)) ≡ read (word-of p n) s at
 word-end p s at l b n e f d = rw d (word-yes p s at b e n f)
 
 -- a comment's text: the first "--" in it, as r says
 module _ (t : List ℕ) (at : ℕ) (r : Found) (a : r ≡ first-place (ascii "--") t at) where
-  pub comment-twice : (j m : ℕ) → r ≡ Here j → m ≡ number double-hyphen → No m j ≡ read check-comment t at
-  unfolding read check-comment choose refuse-at
+  pub comment-twice : (j m : ℕ) → r ≡ Here j → m ≡ number double-hyphen → said (No m j) ≡ read check-comment t at
+  unfolding read said check-comment choose refuse-at
   comment-twice j m b e = let (c, l) = was-here (ascii "--") t at r a j b in rw (c, e, l)
 
-  pub comment-clean : r ≡ Nowhere → At at ≡ read check-comment t at
-  unfolding read check-comment choose nothing
+  pub comment-clean : r ≡ Nowhere → said (At at) ≡ read check-comment t at
+  unfolding read said check-comment choose nothing
   comment-clean b = rw (was-nowhere (ascii "--") t at r a b, add-zero)
 
 -- what code searches that reads up to a word

@@ -11,12 +11,12 @@ ghost use mathlib.Core.Path.{_≡_};
 ghost use lib.ListN.{drop};
 ghost use Rattle.spec.specs.Reading.Readers.{begins};
 ghost use Rattle.spec.specs.Reading.Dtd.{take-decl-body, has-pe-reference};
-ghost use Rattle.error.specs.Read.{read};
+ghost use Rattle.error.specs.Read.{said, read};
 ghost use Rattle.classes.specs.Classes.{dialect};
 
 // take_decl_body: the place of the first '>' outside quotes.
 pub fn take_decl_body(s: &[u8], at: usize) -> Answer
-    ensures { λ r. ⌜ r ≡ read take-decl-body (now (s .entry)) at ⌝ }
+    ensures { λ r. ⌜ said r ≡ read take-decl-body (now (s .entry)) at ⌝ }
 {
     let r = outside_quotes(s, at, b'>', b'>');
     let Found::Here(end) = r else {

@@ -12,7 +12,7 @@ ghost use lib.ListN.{drop};
 ghost use Rattle.spec.specs.Grammar.Languages.{none-of};
 ghost use Rattle.spec.specs.Reading.Readers.{run};
 ghost use Rattle.spec.specs.Reading.Dtd.{reserved, check-target, check-pi, parse-pi};
-ghost use Rattle.error.specs.Read.{read};
+ghost use Rattle.error.specs.Read.{said, read};
 ghost use Rattle.classes.specs.Classes.{dialect};
 
 // The target "xml", in any case.
@@ -44,7 +44,7 @@ fn target_end(t: &[u8], at: usize) -> usize
 
 // [17] PITarget, t from `at` on: check_name, reject_colon, and not the reserved name, in that order.
 fn check_target(t: &[u8], at: usize, names: Names) -> Answer
-    ensures { λ r. ⌜ r ≡ read (check-target (dialect names)) (now (t .entry)) at ⌝ }
+    ensures { λ r. ⌜ said r ≡ read (check-target (dialect names)) (now (t .entry)) at ⌝ }
 {
     let r = whole_name(t, at, names);
     let Answer::At(_) = r else {
@@ -62,7 +62,7 @@ fn check_target(t: &[u8], at: usize, names: Names) -> Answer
 
 // What stands between "<?" and "?>", t from `at` on: only the target is looked at.
 fn check_pi(t: &[u8], at: usize, names: Names) -> Answer
-    ensures { λ r. ⌜ r ≡ read (check-pi (dialect names)) (now (t .entry)) at ⌝ }
+    ensures { λ r. ⌜ said r ≡ read (check-pi (dialect names)) (now (t .entry)) at ⌝ }
 {
     if t.len() < at {
         return Answer::No(error::BAD_NAME, at);
@@ -73,7 +73,7 @@ fn check_pi(t: &[u8], at: usize, names: Names) -> Answer
 
 // parse_pi, [16] PI: from "<?" to the first "?>".
 pub fn parse_pi(s: &[u8], at: usize, names: Names) -> Answer
-    ensures { λ r. ⌜ r ≡ read (parse-pi (dialect names)) (now (s .entry)) at ⌝ }
+    ensures { λ r. ⌜ said r ≡ read (parse-pi (dialect names)) (now (s .entry)) at ⌝ }
 {
     if !at_keyword(s, at, b"<?") {
         return Answer::No(error::UNEXPECTED, at);

@@ -9,7 +9,7 @@ use lib.ListN.{drop}
 use lib.Seq.{drop-drop}
 use Rattle.spec.specs.Grammar.Characters.{space}
 use Rattle.spec.specs.Reading.Readers.{starts, run}
-use Rattle.error.proofs.Laws.{choose-yes, choose-no, refused, ate-only, ate-not}
+use Rattle.error.proofs.Laws.{choose-yes, choose-no, refuses, ate-only, ate-not}
 use Rattle.search.proofs.Words.{on-yes, on-no, word-fits}
 use Rattle.cursor.proofs.Reading.{ate-next, ate-stop}
 use Rattle.error.proofs.Whiles.{whiles, while-first}
@@ -30,6 +30,6 @@ pub ruleset mixing = (ate-next, ate-stop, while-first, sign-ends, some-sign, ste
 pub ruleset mixed-loop = (whiles, sign-ends, some-sign, after-no, after-at, steps)
 
 -- what tells the models apart, and the two words
-pub ruleset modelled = (inner-none, inner-is, choose-yes, choose-no, on-yes, on-no, word-fits, refused, needs)
+pub ruleset modelled = (inner-none, inner-is, choose-yes, choose-no, on-yes, on-no, word-fits, refuses, needs)
 
 pub ruleset specified = (ate-only, ate-not, needs)

@@ -19,10 +19,10 @@ use Rattle.spec.proofs.Base.Loops.{Somes, while-stop}
 use Rattle.spec.proofs.Base.Places.{front-at}
 use Rattle.spec.proofs.Base.Somes.{some-choose, some-refuse}
 use Rattle.spec.proofs.Base.Tests.{decide, eqb-true}
-use Rattle.error.specs.Read.{read}
+use Rattle.error.specs.Read.{Said, said, read}
 use Rattle.error.specs.declared.Answer.{Answer}
 use Rattle.error.specs.declared.Answer.the-variants.{At, No}
-use Rattle.error.proofs.Laws.{seq-no, seq-at, choose-yes, choose-no, refused}
+use Rattle.error.proofs.Laws.{seq-no, seq-at, choose-yes, choose-no, refuses}
 use Rattle.search.proofs.Words.{word-no, word-fits}
 use Rattle.classes.specs.Classes.{dialect}
 use Rattle.classes.specs.declared.Names.{Names}
@@ -32,23 +32,23 @@ use Rattle.models.proofs.Signs.{sign-yes, connector-ends, some-sign, st
 use Rattle.error.proofs.Whiles.{unroll, whiles}
 
 -- by the height
-pub group-none : (n : Names) (h m at : ℕ) (s : List ℕ) → h ≡ 0 → m ≡ number too-deep → No m at ≡ read (parse-group (dialect n) h) s at
-unfolding read parse-group refuse dialect
+pub group-none : (n : Names) (h m at : ℕ) (s : List ℕ) → h ≡ 0 → m ≡ number too-deep → said (No m at) ≡ read (parse-group (dialect n) h) s at
+unfolding read said parse-group refuse dialect
 group-none AppendixB h m at s e f = rw (e, f, add-zero)
 
-pub group-some : (D : Dialect) (h at : ℕ) (s : List ℕ) (r : Answer) → (h ≡ 0 → ⊥) → r ≡ read (word "(" unexpected >> skip-s >> cp-of D (parse-group D (h - 1)) >> skip-s >> group-end (cp-of D (parse-group D (h - 1)))) s at → r ≡ read (parse-group D h) s at
+pub group-some : (D : Dialect) (h at : ℕ) (s : List ℕ) (q : Said) → (h ≡ 0 → ⊥) → q ≡ read (word "(" unexpected >> skip-s >> cp-of D (parse-group D (h - 1)) >> skip-s >> group-end (cp-of D (parse-group D (h - 1)))) s at → q ≡ read (parse-group D h) s at
 unfolding parse-group group-of group-end
-group-some D zero at s r n a = absurd (n refl)
-group-some D (suc h) at s r n a = rw sub-one at a
+group-some D zero at s q n a = absurd (n refl)
+group-some D (suc h) at s q n a = rw sub-one at a
 
-pub all-groups : (n : Names) (at : ℕ) (s : List ℕ) (r : Answer) → r ≡ read (parse-group (dialect n) 64) s at → r ≡ read (parse-group (dialect n) (dialect n .groups)) s at
+pub all-groups : (n : Names) (at : ℕ) (s : List ℕ) (q : Said) → q ≡ read (parse-group (dialect n) 64) s at → q ≡ read (parse-group (dialect n) (dialect n .groups)) s at
 unfolding dialect
-all-groups AppendixB at s r a = a
+all-groups AppendixB at s q a = a
 
 -- a particle
-pub cp-some : (D : Dialect) (G : Reader) (at : ℕ) (s : List ℕ) (r : Answer) → r ≡ read (on "(" G (name D) >> occurs) s at → r ≡ read (cp-of D G) s at
+pub cp-some : (D : Dialect) (G : Reader) (at : ℕ) (s : List ℕ) (q : Said) → q ≡ read (on "(" G (name D) >> occurs) s at → q ≡ read (cp-of D G) s at
 unfolding cp-of
-cp-some D G at s r a = a
+cp-some D G at s q a = a
 
 -- A turn of the loop, where q was the first connector.
 unfoldable pub turn : ℕ → Reader → Reader
@@ -60,18 +60,18 @@ some-turn q cp = some-choose (starts (q ∷ [])) (after-sign q cp) (refuse bad-c
 
 -- b is whether q stands at a place, and r the answer for the particle after it
 module _ (q : ℕ) (cp : Reader) (s : List ℕ) (at : ℕ) (b : Bool) (e : b ≡ starts (q ∷ []) (drop at s)) where
-  pub turn-other : (m : ℕ) → b ≡ false → m ≡ number bad-connector → No m at ≡ read (turn q cp) s at
+  pub turn-other : (m : ℕ) → b ≡ false → m ≡ number bad-connector → said (No m at) ≡ read (turn q cp) s at
   unfolding turn
-  turn-other m n f = choose-no (starts (q ∷ [])) (after-sign q cp) (refuse bad-connector) s at b (No m at) e n (refused bad-connector m s at f)
+  turn-other m n f = choose-no (starts (q ∷ [])) (after-sign q cp) (refuse bad-connector) s at b (said (No m at)) e n (refuses bad-connector m s at f)
 
-  module _ (y : b ≡ true) (i : ℕ) (r : Answer) (hi : i ≡ at + 1 + run space (drop (at + 1) s)) (hr : r ≡ read cp s i) where
-    pub turn-no : (n k : ℕ) → r ≡ No n k → r ≡ read (turn q cp) s at
+  module _ (y : b ≡ true) (i : ℕ) (r : Answer) (hi : i ≡ at + 1 + run space (drop (at + 1) s)) (hr : said r ≡ read cp s i) where
+    pub turn-no : (n k : ℕ) → r ≡ No n k → said r ≡ read (turn q cp) s at
     unfolding turn
-    turn-no n k f = choose-yes (starts (q ∷ [])) (after-sign q cp) (refuse bad-connector) s at b r e y (after-no q cp s at b e y i r hi hr n k f)
+    turn-no n k f = choose-yes (starts (q ∷ [])) (after-sign q cp) (refuse bad-connector) s at b (said r) e y (after-no q cp s at b e y i r hi hr n k f)
 
-    pub turn-at : (d j : ℕ) → r ≡ At d → j ≡ d + run space (drop d s) → At j ≡ read (turn q cp) s at
+    pub turn-at : (d j : ℕ) → r ≡ At d → j ≡ d + run space (drop d s) → said (At j) ≡ read (turn q cp) s at
     unfolding turn
-    turn-at d j f hj = choose-yes (starts (q ∷ [])) (after-sign q cp) (refuse bad-connector) s at b (At j) e y (after-at q cp s at b e y i r hi hr d j f hj)
+    turn-at d j f hj = choose-yes (starts (q ∷ [])) (after-sign q cp) (refuse bad-connector) s at b (said (At j)) e y (after-at q cp s at b e y i r hi hr d j f hj)
 
 module _ (cp : Reader) where
   -- where q stands, the loop is what is read after the first particle

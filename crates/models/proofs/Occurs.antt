@@ -18,7 +18,7 @@ use Rattle.spec.proofs.Base.Tests.{true→T}
 use Rattle.spec.proofs.Base.Places.{drop-at, byte-in, front-at}
 use Rattle.spec.proofs.Characters.Utf8.{decode-1}
 use Rattle.spec.proofs.Prolog.Misc.{begins-sign}
-use Rattle.error.specs.Read.{read}
+use Rattle.error.specs.Read.{said, read}
 use Rattle.error.specs.declared.Answer.the-variants.{At}
 
 -- the class as the code tests it
@@ -43,14 +43,14 @@ module _ (s : List ℕ) (at b : ℕ) (e : b ≡ getD s at 0) where
     pub occurs-fits : length s < 2 ^ 64 → Fits w64 (at + 1)
     occurs-fits h = let v = mark-in in omega arith
 
-    pub occurs-yes : At (at + 1) ≡ read occurs s at
-    unfolding read occurs choose char
+    pub occurs-yes : said (At (at + 1)) ≡ read occurs s at
+    unfolding read said occurs choose char
     occurs-yes =
         let f : one-of "?*+" b ≡ true = sym (mark-is b) ∙ y in
         rw (begun true y, drop-at s at mark-in, ← e, decode-1 b (drop (at + 1) s) (mark-low b (true→T _ f)), f)
 
-  pub occurs-no : mark b ≡ false → At at ≡ read occurs s at
-  unfolding read occurs choose nothing
+  pub occurs-no : mark b ≡ false → said (At at) ≡ read occurs s at
+  unfolding read said occurs choose nothing
   occurs-no n = rw (begun false n, add-zero)
 
 pub ruleset occurring = (occurs-fits, occurs-yes, occurs-no, needs)

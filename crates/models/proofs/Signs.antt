@@ -17,7 +17,7 @@ use Rattle.spec.proofs.Base.Loops.{Somes}
 use Rattle.spec.proofs.Base.Results.{err-ok, ok-inj}
 use Rattle.spec.proofs.Base.Places.{drop-at, drop-end}
 use Rattle.spec.proofs.Base.Somes.{some-then}
-use Rattle.error.specs.Read.{read}
+use Rattle.error.specs.Read.{Said, said, read}
 use Rattle.error.specs.declared.Answer.{Answer}
 use Rattle.error.specs.declared.Answer.the-variants.{At, No}
 use Rattle.error.proofs.Laws.{seq-no, seq-at, took-nothing}
@@ -58,22 +58,22 @@ some-sign c n R = some-then (word-of (c ∷ []) n) R (record { some = λ b w. go
 
 -- the sign c stands at a place, as b says
 module _ (c : ℕ) (s : List ℕ) (at : ℕ) (b : Bool) (e : b ≡ starts (c ∷ []) (drop at s)) (y : b ≡ true) (n : Refusal) where
-  pub sign-yes : At (at + 1) ≡ read (word-of (c ∷ []) n) s at
+  pub sign-yes : said (At (at + 1)) ≡ read (word-of (c ∷ []) n) s at
   sign-yes = word-yes (c ∷ []) s at b e n y
 
-  pub sign-then : (B : Reader) (q : Answer) → q ≡ read B s (at + 1) → q ≡ read (word-of (c ∷ []) n >> B) s at
+  pub sign-then : (B : Reader) (q : Said) → q ≡ read B s (at + 1) → q ≡ read (word-of (c ∷ []) n >> B) s at
   sign-then B q a = word-then (c ∷ []) s at b e n B q y a
 
 -- a sign, what R reads, and white space around it: i is where the white space after the sign ends, and r R's answer there
 abbrev pub after-sign : ℕ → Reader → Reader
 after-sign c R = word-of (c ∷ []) unexpected >> skip-s >> R >> skip-s
 
-module _ (c : ℕ) (R : Reader) (s : List ℕ) (at : ℕ) (b : Bool) (e : b ≡ starts (c ∷ []) (drop at s)) (y : b ≡ true) (i : ℕ) (r : Answer) (hi : i ≡ at + 1 + run space (drop (at + 1) s)) (hr : r ≡ read R s i) where
-  pub after-no : (n k : ℕ) → r ≡ No n k → r ≡ read (after-sign c R) s at
-  after-no n k f = sign-then c s at b e y unexpected (skip-s >> R >> skip-s) r (skip-then s (at + 1) i hi (R >> skip-s) r (seq-no R skip-s s i n k r hr f))
+module _ (c : ℕ) (R : Reader) (s : List ℕ) (at : ℕ) (b : Bool) (e : b ≡ starts (c ∷ []) (drop at s)) (y : b ≡ true) (i : ℕ) (r : Answer) (hi : i ≡ at + 1 + run space (drop (at + 1) s)) (hr : said r ≡ read R s i) where
+  pub after-no : (n k : ℕ) → r ≡ No n k → said r ≡ read (after-sign c R) s at
+  after-no n k f = sign-then c s at b e y unexpected (skip-s >> R >> skip-s) (said r) (skip-then s (at + 1) i hi (R >> skip-s) (said r) (seq-no R skip-s s i n k r hr f))
 
-  pub after-at : (d j : ℕ) → r ≡ At d → j ≡ d + run space (drop d s) → At j ≡ read (after-sign c R) s at
-  after-at d j f hj = sign-then c s at b e y unexpected (skip-s >> R >> skip-s) (At j) (skip-then s (at + 1) i hi (R >> skip-s) (At j) (seq-at R skip-s s i d r (At j) hr f (skip-only s d j hj)))
+  pub after-at : (d j : ℕ) → r ≡ At d → j ≡ d + run space (drop d s) → said (At j) ≡ read (after-sign c R) s at
+  after-at d j f hj = sign-then c s at b e y unexpected (skip-s >> R >> skip-s) (said (At j)) (skip-then s (at + 1) i hi (R >> skip-s) (said (At j)) (seq-at R skip-s s i d r (said (At j)) hr f (skip-only s d j hj)))
 
 -- what the tests of signs search, and what code that reads signs, words and white space one after the other searches
 pub ruleset signs = (sign-in, sign-past, connector-is, needs)

@@ -11,7 +11,7 @@ ghost use mathlib.Core.List.{[], _∷_};
 ghost use lib.ListN.{drop};
 ghost use Rattle.spec.specs.Reading.Readers.{starts};
 ghost use Rattle.spec.specs.Reading.Dtd.{connector, occurs, cp-of, parse-group, parse-children, parse-mixed, parse-contentspec};
-ghost use Rattle.error.specs.Read.{read};
+ghost use Rattle.error.specs.Read.{said, read};
 ghost use Rattle.classes.specs.Classes.{dialect};
 ghost use Rattle.models.specs.Parts.{group-end, mixed-names, mixed-end, model};
 
@@ -36,7 +36,7 @@ fn at_connector(s: &[u8], at: usize) -> bool
 
 // ('?' | '*' | '+')?, at most one of them.
 fn occurrence_end(s: &[u8], at: usize) -> Answer
-    ensures { λ r. ⌜ r ≡ read occurs (now (s .entry)) at ⌝ }
+    ensures { λ r. ⌜ said r ≡ read occurs (now (s .entry)) at ⌝ }
 {
     let b = byte_at(s, at);
     if (b == b'?') | (b == b'*') | (b == b'+') {
@@ -47,7 +47,7 @@ fn occurrence_end(s: &[u8], at: usize) -> Answer
 
 // [48] cp, in which so many groups may yet be opened.
 fn parse_cp(s: &[u8], at: usize, height: usize, names: Names) -> Answer
-    ensures { λ r. ⌜ r ≡ read (cp-of (dialect names) (parse-group (dialect names) height)) (now (s .entry)) at ⌝ }
+    ensures { λ r. ⌜ said r ≡ read (cp-of (dialect names) (parse-group (dialect names) height)) (now (s .entry)) at ⌝ }
 {
     if at_sign(s, at, b'(') {
         let r = parse_group(s, at, height, names);
@@ -66,7 +66,7 @@ fn parse_cp(s: &[u8], at: usize, height: usize, names: Names) -> Answer
 // [49] choice and [50] seq after the first particle and white space: the first connector fixes which of the two it is. The byte here
 // may also be no connector; then the loop is not entered.
 fn group_end(s: &[u8], at: usize, height: usize, names: Names) -> Answer
-    ensures { λ r. ⌜ r ≡ read (group-end (cp-of (dialect names) (parse-group (dialect names) height))) (now (s .entry)) at ⌝ }
+    ensures { λ r. ⌜ said r ≡ read (group-end (cp-of (dialect names) (parse-group (dialect names) height))) (now (s .entry)) at ⌝ }
 {
     let sep = byte_at(s, at);
     let mut j = at;
@@ -90,7 +90,7 @@ fn group_end(s: &[u8], at: usize, height: usize, names: Names) -> Answer
 
 // [49] choice and [50] seq, where so many groups may yet be opened, itself counted.
 fn parse_group(s: &[u8], at: usize, height: usize, names: Names) -> Answer
-    ensures { λ r. ⌜ r ≡ read (parse-group (dialect names) height) (now (s .entry)) at ⌝ }
+    ensures { λ r. ⌜ said r ≡ read (parse-group (dialect names) height) (now (s .entry)) at ⌝ }
 {
     if height == 0 {
         return Answer::No(error::TOO_DEEP, at);
@@ -109,7 +109,7 @@ fn parse_group(s: &[u8], at: usize, height: usize, names: Names) -> Answer
 
 // [47] children, at the '(' where parse_contentspec calls it.
 pub fn parse_children(s: &[u8], at: usize, names: Names) -> Answer
-    ensures { λ r. ⌜ r ≡ read (parse-children (dialect names)) (now (s .entry)) at ⌝ }
+    ensures { λ r. ⌜ said r ≡ read (parse-children (dialect names)) (now (s .entry)) at ⌝ }
 {
     let r = parse_group(s, at, GROUPS, names);
     let Answer::At(e) = r else {
@@ -120,7 +120,7 @@ pub fn parse_children(s: &[u8], at: usize, names: Names) -> Answer
 
 // [51] Mixed from its first '|' on: names, and then ')*'.
 fn mixed_names(s: &[u8], at: usize, names: Names) -> Answer
-    ensures { λ r. ⌜ r ≡ read (mixed-names (dialect names)) (now (s .entry)) at ⌝ }
+    ensures { λ r. ⌜ said r ≡ read (mixed-names (dialect names)) (now (s .entry)) at ⌝ }
 {
     let mut j = at;
     while at_sign(s, j, b'|') {
@@ -143,7 +143,7 @@ fn mixed_names(s: &[u8], at: usize, names: Names) -> Answer
 
 // [51] Mixed after "#PCDATA" and white space: without names the '*' may stand or not.
 fn mixed_end(s: &[u8], at: usize, names: Names) -> Answer
-    ensures { λ r. ⌜ r ≡ read (mixed-end (dialect names)) (now (s .entry)) at ⌝ }
+    ensures { λ r. ⌜ said r ≡ read (mixed-end (dialect names)) (now (s .entry)) at ⌝ }
 {
     if at_sign(s, at, b'|') {
         return mixed_names(s, at, names);
@@ -160,7 +160,7 @@ fn mixed_end(s: &[u8], at: usize, names: Names) -> Answer
 
 // [51] Mixed.
 pub fn parse_mixed(s: &[u8], at: usize, names: Names) -> Answer
-    ensures { λ r. ⌜ r ≡ read (parse-mixed (dialect names)) (now (s .entry)) at ⌝ }
+    ensures { λ r. ⌜ said r ≡ read (parse-mixed (dialect names)) (now (s .entry)) at ⌝ }
 {
     if !at_sign(s, at, b'(') {
         return Answer::No(error::UNEXPECTED, at);
@@ -176,7 +176,7 @@ pub fn parse_mixed(s: &[u8], at: usize, names: Names) -> Answer
 
 // Mixed or children: "#PCDATA" after the '(' tells which. parse_contentspec looks ahead in the same way.
 fn parse_model(s: &[u8], at: usize, names: Names) -> Answer
-    ensures { λ r. ⌜ r ≡ read (model (dialect names)) (now (s .entry)) at ⌝ }
+    ensures { λ r. ⌜ said r ≡ read (model (dialect names)) (now (s .entry)) at ⌝ }
 {
     if at_sign(s, at, b'(') {
         let i = skip_s(s, at + 1);
@@ -190,7 +190,7 @@ fn parse_model(s: &[u8], at: usize, names: Names) -> Answer
 
 // [46] contentspec.
 pub fn parse_contentspec(s: &[u8], at: usize, names: Names) -> Answer
-    ensures { λ r. ⌜ r ≡ read (parse-contentspec (dialect names)) (now (s .entry)) at ⌝ }
+    ensures { λ r. ⌜ said r ≡ read (parse-contentspec (dialect names)) (now (s .entry)) at ⌝ }
 {
     let r = eat_str(s, at, b"EMPTY", error::UNEXPECTED);
     if let Answer::At(e) = r {

@@ -19,7 +19,7 @@ use Rattle.spec.specs.Reading.Wellformed.{parts, name, name-length, check-name}
 use Rattle.spec.proofs.Base.Tests.{or-false-left, or-false-right}
 use Rattle.spec.proofs.Base.Places.{drop-at, drop-end, take-rest}
 use Rattle.spec.proofs.Wellformed.LongestName.{char-is, char-not, char-none, chars-stop, chars-turn, parts-ok, parts-takes, name-first, name-none, Named, a-name, no-name, named, name-within, name-is-name, name-longest}
-use Rattle.error.specs.Read.{read}
+use Rattle.error.specs.Read.{passed, refused, said, read}
 use Rattle.error.specs.declared.Answer.the-variants.{At, No}
 use Rattle.error.proofs.Laws.{answered}
 use Rattle.utf8.specs.Seen.{seen}
@@ -153,11 +153,11 @@ module _ (D : Dialect) (s : List ℕ) (at e : ℕ) (f : e ≡ at + name-length D
   unfolding name-length
   ends-at x g = f ∙ (rw g)
 
-  pub whole-none : e ≡ at → No (number bad-name) at ≡ read (check-name D) s at
-  unfolding read check-name _>>_
+  pub whole-none : e ≡ at → said (No (number bad-name) at) ≡ read (check-name D) s at
+  unfolding read said check-name _>>_
   whole-none z = go (named D (drop at s))
     where
-      go : Named D (drop at s) → No (number bad-name) at ≡ read (check-name D) s at
+      go : Named D (drop at s) → said (No (number bad-name) at) ≡ read (check-name D) s at
       go (a-name k p g t) = absurd (omega (arith, ends-at (ok k) g))
       go (no-name g n) = rw (g, add-zero)
 
@@ -169,19 +169,19 @@ module _ (D : Dialect) (s : List ℕ) (at e : ℕ) (f : e ≡ at + name-length D
         go (a-name k p g t) = (k, (g, ends-at (ok k) g))
         go (no-name g n) = absurd (some (ends-at (err bad-name 0) g ∙ add-zero at))
 
-    pub whole-more : e < length s → No (number bad-name) e ≡ read (check-name D) s at
-    unfolding read check-name _>>_ at-end
+    pub whole-more : e < length s → said (No (number bad-name) e) ≡ read (check-name D) s at
+    unfolding read said check-name _>>_ at-end
     whole-more h =
         let (k, (g, l)) = a-name-to in
         let z : at + k < length s = omega arith in
-        ap (No (number bad-name)) l ∙ (rw (g, drop-drop, drop-at s (at + k) z, add-zero))
+        ap (refused (number bad-name)) l ∙ (rw (g, drop-drop, drop-at s (at + k) z, add-zero))
 
-    pub whole-all : length s ≤ e → At e ≡ read (check-name D) s at
-    unfolding read check-name _>>_ at-end
+    pub whole-all : length s ≤ e → said (At e) ≡ read (check-name D) s at
+    unfolding read said check-name _>>_ at-end
     whole-all h =
         let (k, (g, l)) = a-name-to in
         let z : length s ≤ at + k = omega arith in
-        ap At l ∙ (rw (g, drop-drop, drop-end s (at + k) z, add-zero))
+        ap passed l ∙ (rw (g, drop-drop, drop-end s (at + k) z, add-zero))
 
 -- a name of ASCII alone, whatever the edition: the name at the front of w goes on at i
 pub record Front (w : List ℕ) (i : ℕ) : Type 0 where

@@ -23,7 +23,7 @@ ghost use Rattle.spec.specs.Promises.{Checks, Stops};
 ghost use Rattle.spec.specs.Grammar.AppendixB.{appendix-B};
 ghost use Rattle.spec.specs.Reading.Readers.{number-of, taken};
 ghost use Rattle.spec.specs.Reading.Wellformed.{parts, name-length, check-name};
-ghost use Rattle.error.specs.Read.{read};
+ghost use Rattle.error.specs.Read.{said, read};
 ghost use Rattle.classes.specs.Classes.{dialect};
 ghost use Rattle.names.specs.Names.{AsciiRun, AnyName};
 ghost use Rattle.names.specs.NamePart.{NamePart};
@@ -134,7 +134,7 @@ pub fn parse_name(s: &[u8], at: usize, names: Names) -> &[u8]
 
 // check_name from a place on: [5] Name, and then the text's end.
 pub fn whole_name(s: &[u8], at: usize, names: Names) -> Answer
-    ensures { λ r. ⌜ r ≡ read (check-name (dialect names)) (now (s .entry)) at ⌝ }
+    ensures { λ r. ⌜ said r ≡ read (check-name (dialect names)) (now (s .entry)) at ⌝ }
 {
     let e = name_end(s, at, names);
     if e == at {

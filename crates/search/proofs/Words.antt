@@ -16,8 +16,7 @@ use Rattle.spec.specs.Reading.Refusals.{Refusal, number}
 use Rattle.spec.specs.Reading.Readers.{Reader, _>>_, starts, on, word-of}
 use Rattle.spec.proofs.Agreement.Words.{starts-split}
 use Rattle.spec.proofs.Base.Places.{drop-at, drop-end}
-use Rattle.error.specs.Read.{read}
-use Rattle.error.specs.declared.Answer.{Answer}
+use Rattle.error.specs.Read.{Said, said, read}
 use Rattle.error.specs.declared.Answer.the-variants.{At, No}
 use Rattle.error.proofs.Laws.{seq-no, seq-at, choose-yes, choose-no, chain}
 
@@ -48,28 +47,28 @@ word-fits kw s at n b e f l h g = let v = simp length-drop at (starts-fit kw (dr
 
 -- the word k stands at a place or not, as b says
 module _ (k : String) (s : List ℕ) (at : ℕ) (b : Bool) (e : b ≡ starts (ascii k) (drop at s)) where
-  pub on-yes : (A B : Reader) (r : Answer) → b ≡ true → r ≡ read A s at → r ≡ read (on k A B) s at
+  pub on-yes : (A B : Reader) (q : Said) → b ≡ true → q ≡ read A s at → q ≡ read (on k A B) s at
   unfolding on
-  on-yes A B r f a = choose-yes (starts (ascii k)) A B s at b r e f a
+  on-yes A B q f a = choose-yes (starts (ascii k)) A B s at b q e f a
 
-  pub on-no : (A B : Reader) (r : Answer) → b ≡ false → r ≡ read B s at → r ≡ read (on k A B) s at
+  pub on-no : (A B : Reader) (q : Said) → b ≡ false → q ≡ read B s at → q ≡ read (on k A B) s at
   unfolding on
-  on-no A B r f a = choose-no (starts (ascii k)) A B s at b r e f a
+  on-no A B q f a = choose-no (starts (ascii k)) A B s at b q e f a
 
 -- the bytes p stand at a place or not, as b says
 module _ (p s : List ℕ) (at : ℕ) (b : Bool) (e : b ≡ starts p (drop at s)) (n : Refusal) where
-  pub word-yes : b ≡ true → At (at + length p) ≡ read (word-of p n) s at
-  unfolding read word-of
+  pub word-yes : b ≡ true → said (At (at + length p)) ≡ read (word-of p n) s at
+  unfolding read said word-of
   word-yes f = rw (sym e ∙ f)
 
-  pub word-no : (m : ℕ) → b ≡ false → m ≡ number n → No m at ≡ read (word-of p n) s at
-  unfolding read word-of
+  pub word-no : (m : ℕ) → b ≡ false → m ≡ number n → said (No m at) ≡ read (word-of p n) s at
+  unfolding read said word-of
   word-no m f g = rw (sym e ∙ f, g, add-zero)
 
-  pub word-then : (B : Reader) (q : Answer) → b ≡ true → q ≡ read B s (at + length p) → q ≡ read (word-of p n >> B) s at
+  pub word-then : (B : Reader) (q : Said) → b ≡ true → q ≡ read B s (at + length p) → q ≡ read (word-of p n >> B) s at
   word-then B q f a = seq-at (word-of p n) B s at (at + length p) (At (at + length p)) q (word-yes f) refl a
 
-  pub word-not : (m : ℕ) (B : Reader) → b ≡ false → m ≡ number n → No m at ≡ read (word-of p n >> B) s at
+  pub word-not : (m : ℕ) (B : Reader) → b ≡ false → m ≡ number n → said (No m at) ≡ read (word-of p n >> B) s at
   word-not m B f g = seq-no (word-of p n) B s at m at (No m at) (word-no m f g) refl
 
 -- what at_keyword searches, and what code that goes by words searches

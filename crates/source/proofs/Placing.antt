@@ -17,8 +17,7 @@ use Rattle.spec.specs.Reading.Refusals.{number, too-long, not-utf8}
 use Rattle.spec.specs.Reading.Source.{utf8, limit, admit, checked, checked-at}
 use Rattle.spec.proofs.Characters.Valid.{utf8-cases, utf8-complete}
 use Rattle.spec.proofs.Inside.Checks.{Placed}
-use Rattle.error.specs.Numbers.{answer-stop}
-use Rattle.error.specs.Read.{read, placed}
+use Rattle.error.specs.Read.{Said, passed, refused, said, answer-stop, placed, read}
 use Rattle.error.specs.declared.Answer.{Answer}
 use Rattle.error.specs.declared.Answer.the-variants.{At, No}
 use Rattle.error.specs.declared.Stop.{Stop}
@@ -27,7 +26,7 @@ use Rattle.error.proofs.Laws.{was-ok, was-err, stop-number, stop-place}
 -- n is the number in front: by it the place is known
 module _ (w : List ℕ) (n : ℕ) (e : n ≡ checked nothing w) where
   -- the three ways, by the length and by whether the bytes are a text
-  ways : (Q : Answer → Type 0) → (n ≡ 0 → Q (At (length w))) → (n ≡ number too-long → Q (No (number too-long) 0)) → (n ≡ number not-utf8 → Q (No (number not-utf8) (stop-of (utf8 w)))) → Q (read admit w 0)
+  ways : (Q : Said → Type 0) → (n ≡ 0 → Q (passed (length w))) → (n ≡ number too-long → Q (refused (number too-long) 0)) → (n ≡ number not-utf8 → Q (refused (number not-utf8) (stop-of (utf8 w)))) → Q (read admit w 0)
   unfolding read checked admit nothing
   ways Q f g h = go (ltb limit (length w)) (utf8-cases w) e
     where
@@ -36,24 +35,27 @@ module _ (w : List ℕ) (n : ℕ) (e : n ≡ checked nothing w) where
       go false (inl t) z = rw (utf8-complete w t, zero-add) (f (rw (utf8-complete w t) at z))
       go false (inr (k, d)) z = rw (d, zero-add) (rw d at (h (rw d at z)))
 
-  pub front-accepted : n ≡ 0 → At (length w) ≡ read admit w 0
-  front-accepted z = ways (λ x. At (length w) ≡ x) (λ _. refl) (λ f. absurd (omega arith)) (λ f. absurd (omega arith))
+  pub front-accepted : n ≡ 0 → said (At (length w)) ≡ read admit w 0
+  unfolding said
+  front-accepted z = ways (λ x. said (At (length w)) ≡ x) (λ _. refl) (λ f. absurd (omega arith)) (λ f. absurd (omega arith))
 
-  pub front-long : n ≡ number too-long → No n 0 ≡ read admit w 0
-  front-long z = ways (λ x. No n 0 ≡ x) (λ f. absurd (omega arith)) (λ f. ap (λ (m : ℕ). No m 0) f) (λ f. absurd (omega arith))
+  pub front-long : n ≡ number too-long → said (No n 0) ≡ read admit w 0
+  unfolding said
+  front-long z = ways (λ x. said (No n 0) ≡ x) (λ f. absurd (omega arith)) (λ f. ap (λ (m : ℕ). refused m 0) f) (λ f. absurd (omega arith))
 
-  pub front-broken : (k : ℕ) → (n ≡ 0 → ⊥) → (n ≡ number too-long → ⊥) → k ≡ stop-of (utf8 w) → No n k ≡ read admit w 0
-  front-broken k z y f = ways (λ x. No n k ≡ x) (λ g. absurd (z g)) (λ g. absurd (y g)) (λ g. rw (g, f))
+  pub front-broken : (k : ℕ) → (n ≡ 0 → ⊥) → (n ≡ number too-long → ⊥) → k ≡ stop-of (utf8 w) → said (No n k) ≡ read admit w 0
+  unfolding said
+  front-broken k z y f = ways (λ x. said (No n k) ≡ x) (λ g. absurd (z g)) (λ g. absurd (y g)) (λ g. rw (g, f))
 
 -- A check with a place: a is what admit_at answered, and m what is given in the end.
-module _ (rule : Reader) (P : Placed rule) (w : List ℕ) (a : Answer) (m : Stop) (h : a ≡ read admit w 0) where
+module _ (rule : Reader) (P : Placed rule) (w : List ℕ) (a : Answer) (m : Stop) (h : said a ≡ read admit w 0) where
   pub stop-refused : (n k : ℕ) → a ≡ No n k → m ≡ answer-stop a → Stops rule w (m .number) (m .place)
   unfolding checked checked-at
   stop-refused n k f g =
       let (r, (j, (e, _))) = was-err admit w 0 n k a h f in
       P .stops w (m .number) (m .place) (stop-number admit w a m h g ∙ (rw e)) (stop-place admit w a m h g ∙ (rw e))
 
-  pub stop-read : (i : ℕ) (q : Answer) → a ≡ At i → q ≡ read rule w 0 → m ≡ answer-stop q → Stops rule w (m .number) (m .place)
+  pub stop-read : (i : ℕ) (q : Answer) → a ≡ At i → said q ≡ read rule w 0 → m ≡ answer-stop q → Stops rule w (m .number) (m .place)
   unfolding checked checked-at
   stop-read i q f g e =
       let (k, (d, _)) = was-ok admit w 0 i a h f in

@@ -7,7 +7,7 @@ ghost use Rattle.spec.specs.Grammar.Characters.{Text};
 ghost use Rattle.spec.specs.Reading.Readers.{nothing};
 ghost use Rattle.spec.specs.Reading.Source.{admit, checked};
 ghost use Rattle.spec.specs.Promises.{Tells};
-ghost use Rattle.error.specs.Read.{read};
+ghost use Rattle.error.specs.Read.{said, read};
 
 // The longest text that is looked at.
 const LIMIT: usize = 1_048_576;
@@ -33,7 +33,7 @@ pub fn admit(text: &[u8]) -> u8
 
 // The same with the place: a text that is too long is refused at its first byte, since it is not looked at.
 pub fn admit_at(text: &[u8]) -> Answer
-    ensures { λ r. ⌜ r ≡ read admit (now (text .entry)) 0 ⌝ }
+    ensures { λ r. ⌜ said r ≡ read admit (now (text .entry)) 0 ⌝ }
 {
     let n = admit(text);
     if n == error::ACCEPTED {

@@ -19,7 +19,7 @@ use Rattle.spec.specs.Reading.Dtd.{skip-s, parse-pe-reference, parse-markup-dec
 use Rattle.spec.proofs.Base.Loops.{Somes}
 use Rattle.spec.proofs.Base.Places.{drop-at, drop-end, byte-in, front-at}
 use Rattle.spec.proofs.Dtd.Items.{item, items, items-turn, subset-items, some-reference, some-markup}
-use Rattle.error.specs.Read.{placed, read}
+use Rattle.error.specs.Read.{Said, said, placed, read}
 use Rattle.error.specs.declared.Answer.{Answer}
 use Rattle.error.specs.declared.Answer.the-variants.{At, No}
 use Rattle.error.proofs.Laws.{seq-no, seq-at, read-on, walk-less}
@@ -34,7 +34,7 @@ sign-at a s i b e n = go (drop i s) (e ∙ sym (front-at s i))
     go (x ∷ w) f = rw (f, and-true)
 
 -- i is the place after white space at i₀, and b the byte there
-module _ (D : Dialect) (pe : Bool) (s : List ℕ) (i₀ i b : ℕ) (W : Answer) (inv : read (items D pe) s i₀ ≡ W) (h : i ≡ i₀ + run space (drop i₀ s)) (e : b ≡ getD s i 0) where
+module _ (D : Dialect) (pe : Bool) (s : List ℕ) (i₀ i b : ℕ) (W : Said) (inv : read (items D pe) s i₀ ≡ W) (h : i ≡ i₀ + run space (drop i₀ s)) (e : b ≡ getD s i 0) where
   -- the item that stands there decides
   here : read (item D (items D) pe) s i ≡ W
   unfolding _>>_ skip-s
@@ -51,24 +51,24 @@ module _ (D : Dialect) (pe : Bool) (s : List ℕ) (i₀ i b : ℕ) (W : Answer) 
 
   -- ']' closes the subset
   module _ (f : b ≡ 93) where
-    pub item-close : At (i + 1) ≡ W
-    unfolding read item on choose word-of
+    pub item-close : said (At (i + 1)) ≡ W
+    unfolding read said item on choose word-of
     item-close = let y = is 93 (λ z. omega arith) f in (rw (y, y)) ∙ here
 
     pub close-fits : length s < 2 ^ 64 → Fits w64 (i + 1)
     close-fits l = let g = byte-in s i b e (λ z. omega arith) in omega arith
 
   -- what R reads there takes a byte or more
-  onward : (R : Reader) → Somes R → (b ≡ 0 → ⊥) → (r : Answer) → r ≡ read R s i → (j : ℕ) → r ≡ At j → length s - j < length s - i₀
+  onward : (R : Reader) → Somes R → (b ≡ 0 → ⊥) → (r : Answer) → said r ≡ read R s i → (j : ℕ) → r ≡ At j → length s - j < length s - i₀
   onward R some n r a j g = let l = walk-less R s i j r some (byte-in s i b e n) a g in omega arith
 
   -- a parameter-entity reference
-  module _ (n : b ≡ 93 → ⊥) (f : b ≡ 37) (r : Answer) (a : r ≡ read (parse-pe-reference D) s i) where
+  module _ (n : b ≡ 93 → ⊥) (f : b ≡ 37) (r : Answer) (a : said r ≡ read (parse-pe-reference D) s i) where
     by-reference : read (parse-pe-reference D >> items D true) s i ≡ W
     unfolding read item on choose
     by-reference = (rw (isn't 93 (λ z. omega arith) n, is 37 (λ z. omega arith) f)) ∙ here
 
-    pub item-reference-no : (m k : ℕ) → r ≡ No m k → r ≡ W
+    pub item-reference-no : (m k : ℕ) → r ≡ No m k → said r ≡ W
     item-reference-no m k g = seq-no (parse-pe-reference D) (items D true) s i m k r a g ∙ by-reference
 
     pub item-reference : (j : ℕ) → r ≡ At j → read (items D true) s j ≡ W
@@ -78,12 +78,12 @@ module _ (D : Dialect) (pe : Bool) (s : List ℕ) (i₀ i b : ℕ) (W : Answer) 
     reference-less j g = onward (parse-pe-reference D) (some-reference D) (λ z. omega arith) r a j g
 
   -- a declaration, an instruction or a comment
-  module _ (n : b ≡ 93 → ⊥) (m : b ≡ 37 → ⊥) (f : b ≡ 60) (r : Answer) (a : r ≡ read (parse-markup-decl D pe) s i) where
+  module _ (n : b ≡ 93 → ⊥) (m : b ≡ 37 → ⊥) (f : b ≡ 60) (r : Answer) (a : said r ≡ read (parse-markup-decl D pe) s i) where
     by-markup : read (parse-markup-decl D pe >> items D pe) s i ≡ W
     unfolding read item on choose
     by-markup = (rw (isn't 93 (λ z. omega arith) n, isn't 37 (λ z. omega arith) m, is 60 (λ z. omega arith) f)) ∙ here
 
-    pub item-markup-no : (k o : ℕ) → r ≡ No k o → r ≡ W
+    pub item-markup-no : (k o : ℕ) → r ≡ No k o → said r ≡ W
     item-markup-no k o g = seq-no (parse-markup-decl D pe) (items D pe) s i k o r a g ∙ by-markup
 
     pub item-markup : (j : ℕ) → r ≡ At j → read (items D pe) s j ≡ W
@@ -98,12 +98,12 @@ module _ (D : Dialect) (pe : Bool) (s : List ℕ) (i₀ i b : ℕ) (W : Answer) 
     unfolding read item on choose
     by-rest = (rw (isn't 93 (λ z. omega arith) n, isn't 37 (λ z. omega arith) m, isn't 60 (λ z. omega arith) f)) ∙ here
 
-    pub item-other : i < length s → No (number unexpected) i ≡ W
-    unfolding read _>>_ at-end
+    pub item-other : i < length s → said (No (number unexpected) i) ≡ W
+    unfolding read said _>>_ at-end
     item-other l = (rw (drop-at s i l, add-zero)) ∙ by-rest
 
-    pub item-none : length s ≤ i → No (number unterminated) i ≡ W
-    unfolding read _>>_ at-end refuse
+    pub item-none : length s ≤ i → said (No (number unterminated) i) ≡ W
+    unfolding read said _>>_ at-end refuse
     item-none l = (rw (drop-end s i l, add-zero)) ∙ by-rest
 
 -- the subset is the items from its '[' on

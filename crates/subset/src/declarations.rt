@@ -18,7 +18,7 @@ use models::parse_contentspec;
 use search::at_keyword;
 ghost use mathlib.Core.Path.{_≡_};
 ghost use Rattle.spec.specs.Reading.Dtd.{parse-element-decl, finish-decl, parse-markup-decl};
-ghost use Rattle.error.specs.Read.{read};
+ghost use Rattle.error.specs.Read.{said, read};
 ghost use Rattle.classes.specs.Classes.{dialect};
 ghost use Rattle.subset.specs.Kinds.{body-of, entity-or-notation, declaration};
 
@@ -32,7 +32,7 @@ pub enum Kind {
 
 // [45] elementdecl, its body
 fn parse_element_decl(body: &[u8], at: usize, names: Names) -> Answer
-    ensures { λ r. ⌜ r ≡ read (parse-element-decl (dialect names)) (now (body .entry)) at ⌝ }
+    ensures { λ r. ⌜ said r ≡ read (parse-element-decl (dialect names)) (now (body .entry)) at ⌝ }
 {
     let r = require_s(body, at);
     let Answer::At(i) = r else {
@@ -56,7 +56,7 @@ fn parse_element_decl(body: &[u8], at: usize, names: Names) -> Answer
 
 // A body, by the kind of its declaration: it begins at `at`, and its end is the text's.
 fn parse_body(kind: Kind, body: &[u8], at: usize, names: Names) -> Answer
-    ensures { λ r. ⌜ r ≡ read (body-of (dialect names) kind) (now (body .entry)) at ⌝ }
+    ensures { λ r. ⌜ said r ≡ read (body-of (dialect names) kind) (now (body .entry)) at ⌝ }
 {
     match kind {
         Kind::Element => parse_element_decl(body, at, names),
@@ -68,7 +68,7 @@ fn parse_body(kind: Kind, body: &[u8], at: usize, names: Names) -> Answer
 
 // From a declaration's keyword to its '>': the body is read, unless a parameter-entity reference stands in it or stood before.
 fn finish_decl(s: &[u8], at: usize, pe_used: bool, kind: Kind, names: Names) -> Answer
-    ensures { λ r. ⌜ r ≡ read (finish-decl (dialect names) «pe_used» (body-of (dialect names) kind)) (now (s .entry)) at ⌝ }
+    ensures { λ r. ⌜ said r ≡ read (finish-decl (dialect names) «pe_used» (body-of (dialect names) kind)) (now (s .entry)) at ⌝ }
 {
     let r = take_decl_body(s, at);
     let Answer::At(end) = r else {
@@ -89,7 +89,7 @@ fn finish_decl(s: &[u8], at: usize, pe_used: bool, kind: Kind, names: Names) -> 
 
 // <!ENTITY and <!NOTATION, the last two keywords of the four
 fn parse_entity_or_notation(s: &[u8], at: usize, pe_used: bool, names: Names) -> Answer
-    ensures { λ r. ⌜ r ≡ read (entity-or-notation (dialect names) «pe_used») (now (s .entry)) at ⌝ }
+    ensures { λ r. ⌜ said r ≡ read (entity-or-notation (dialect names) «pe_used») (now (s .entry)) at ⌝ }
 {
     let r = eat_str(s, at, b"<!ENTITY", UNEXPECTED);
     if let Answer::At(i) = r {
@@ -104,7 +104,7 @@ fn parse_entity_or_notation(s: &[u8], at: usize, pe_used: bool, names: Names) ->
 
 // The four declarations by their keywords.
 fn parse_declaration(s: &[u8], at: usize, pe_used: bool, names: Names) -> Answer
-    ensures { λ r. ⌜ r ≡ read (declaration (dialect names) «pe_used») (now (s .entry)) at ⌝ }
+    ensures { λ r. ⌜ said r ≡ read (declaration (dialect names) «pe_used») (now (s .entry)) at ⌝ }
 {
     let r = eat_str(s, at, b"<!ELEMENT", UNEXPECTED);
     if let Answer::At(i) = r {
@@ -119,7 +119,7 @@ fn parse_declaration(s: &[u8], at: usize, pe_used: bool, names: Names) -> Answer
 
 // [29] markupdecl; a conditional section is none
 pub fn parse_markup_decl(s: &[u8], at: usize, pe_used: bool, names: Names) -> Answer
-    ensures { λ r. ⌜ r ≡ read (parse-markup-decl (dialect names) «pe_used») (now (s .entry)) at ⌝ }
+    ensures { λ r. ⌜ said r ≡ read (parse-markup-decl (dialect names) «pe_used») (now (s .entry)) at ⌝ }
 {
     if at_keyword(s, at, b"<?") {
         return parse_pi(s, at, names);

@@ -11,11 +11,11 @@ use search::at_keyword;
 ghost use mathlib.Core.Path.{_≡_};
 ghost use Rattle.spec.specs.Reading.Readers.{number-of};
 ghost use Rattle.spec.specs.Reading.Wellformed.{text-step, check-text, attr-step, check-attr-value};
-ghost use Rattle.error.specs.Read.{read};
+ghost use Rattle.error.specs.Read.{said, read};
 
 // CharData has no "]]>" (production 14). It is refused where it begins; the Rust sees it where it ends, and gives the same number.
 fn text_step(s: &[u8], i: usize) -> Answer
-    ensures { λ r. ⌜ r ≡ read text-step (now (s .entry)) i ⌝ }
+    ensures { λ r. ⌜ said r ≡ read text-step (now (s .entry)) i ⌝ }
 {
     if at_keyword(s, i, b"]]>") {
         return Answer::No(error::SECTION_END, i);
@@ -29,7 +29,7 @@ fn text_step(s: &[u8], i: usize) -> Answer
 
 // AttValue has no '<' (production 10).
 fn attr_step(s: &[u8], i: usize) -> Answer
-    ensures { λ r. ⌜ r ≡ read attr-step (now (s .entry)) i ⌝ }
+    ensures { λ r. ⌜ said r ≡ read attr-step (now (s .entry)) i ⌝ }
 {
     if at_keyword(s, i, b"<") {
         return Answer::No(error::LESS_THAN, i);
@@ -42,7 +42,7 @@ fn attr_step(s: &[u8], i: usize) -> Answer
 }
 
 pub fn walk_text(text: &[u8]) -> Answer
-    ensures { λ r. ⌜ r ≡ read check-text (now (text .entry)) 0 ⌝ }
+    ensures { λ r. ⌜ said r ≡ read check-text (now (text .entry)) 0 ⌝ }
 {
     let mut i: usize = 0;
     let mut calm: usize = 0;
@@ -68,7 +68,7 @@ pub fn walk_text(text: &[u8]) -> Answer
 }
 
 pub fn walk_attr_value(text: &[u8]) -> Answer
-    ensures { λ r. ⌜ r ≡ read check-attr-value (now (text .entry)) 0 ⌝ }
+    ensures { λ r. ⌜ said r ≡ read check-attr-value (now (text .entry)) 0 ⌝ }
 {
     let mut i: usize = 0;
     let mut calm: usize = 0;
