@@ -19,6 +19,7 @@ use Rattle.spec.proofs.Base.Tests.{eqb-yes, eqb-no}
 use Rattle.error.specs.Read.{Said, refused, said, read}
 use Rattle.error.specs.declared.Answer.the-variants.{At, No}
 use Rattle.search.specs.FirstPlace.{first-place}
+use Rattle.search.specs.Places.{found}
 use Rattle.search.specs.declared.places.Found.{Found}
 use Rattle.search.specs.declared.places.Found.the-variants.{Here, Nowhere}
 use Rattle.search.proofs.Finding.{was-nowhere, was-here, places-found}
@@ -49,7 +50,7 @@ module _ (t : List ℕ) (at i : ℕ) (inv : i + run pubid-char (drop i t) ≡ at
       rw (eqb-yes (run pubid-char (drop at t)) (length (drop at t)) (omega (arith, length-drop at t)), add-zero)
 
 -- the first '<' in the text t, as r says
-module _ (t : List ℕ) (at : ℕ) (r : Found) (e : r ≡ first-place (ascii "<") t at) where
+module _ (t : List ℕ) (at : ℕ) (r : Found) (e : found r ≡ first-place (ascii "<") t at) where
   pub value-less : (j : ℕ) → r ≡ Here j → said (No (number less-than) j) ≡ read check-att-value t at
   unfolding read said check-att-value choose refuse-at
   value-less j y = let (c, l) = was-here (ascii "<") t at r e j y in rw (c, l)

@@ -19,6 +19,7 @@ use Rattle.error.specs.Read.{said, read}
 use Rattle.error.specs.declared.Answer.the-variants.{At, No}
 use Rattle.spec.proofs.Agreement.Words.{before-within}
 use Rattle.search.specs.FirstPlace.{first-place}
+use Rattle.search.specs.Places.{found}
 use Rattle.search.specs.declared.places.Found.{Found}
 use Rattle.search.specs.declared.places.Found.the-variants.{Here, Nowhere}
 use Rattle.search.proofs.Finding.{was-nowhere, was-here, places-found}
@@ -68,7 +69,7 @@ module _ (D : Dialect) (s p : List ℕ) (at : ℕ) (n : NamePart D (drop at s) p
     same-part = n .part ∙ (rw size)
 
     -- the first colon in it, as r says
-    module _ (r : Found) (e : r ≡ first-place (ascii ":") p 0) where
+    module _ (r : Found) (e : found r ≡ first-place (ascii ":") p 0) where
       module _ (j : ℕ) (y : r ≡ Here j) where
         pub ncname-colon : (m : ℕ) → m ≡ number has-colon → said (No m (at + j)) ≡ read (ncname D) s at
         unfolding read said ncname

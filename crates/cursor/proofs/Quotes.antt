@@ -24,6 +24,7 @@ use Rattle.error.specs.declared.Answer.{Answer}
 use Rattle.error.specs.declared.Answer.the-variants.{At, No}
 use Rattle.error.proofs.Laws.{passed≢refused, passed-inj, was-ok, was-err}
 use Rattle.search.specs.FirstPlace.{first-place}
+use Rattle.search.specs.Places.{found}
 use Rattle.search.specs.declared.places.Found.{Found}
 use Rattle.search.specs.declared.places.Found.the-variants.{Here, Nowhere}
 use Rattle.search.proofs.Finding.{was-nowhere, was-here, places-found}
@@ -69,7 +70,7 @@ module _ (check : List ℕ → Result) (s : List ℕ) (at m : ℕ) where
     unfolding read said
     literal-other n e = rw (drop-at s at h, quoted-other check (getD s at 0) (drop (at + 1) s) n, e, add-zero)
 
-    pub literal-open : (r : Found) → quote (getD s at 0) ≡ true → r ≡ first-place (getD s at 0 ∷ []) s (at + 1) → r ≡ Nowhere → m ≡ number unterminated → said (No m (at + 1)) ≡ read (parse-quoted check) s at
+    pub literal-open : (r : Found) → quote (getD s at 0) ≡ true → found r ≡ first-place (getD s at 0 ∷ []) s (at + 1) → r ≡ Nowhere → m ≡ number unterminated → said (No m (at + 1)) ≡ read (parse-quoted check) s at
     unfolding read said
     literal-open r y f l g = rw (drop-at s at h, quoted-mark check (getD s at 0) (drop (at + 1) s) y, was-nowhere (getD s at 0 ∷ []) s (at + 1) r f l, g)
 
@@ -95,7 +96,7 @@ literal-whole : (s : List ℕ) (at e : ℕ) → Literal s at e → passed e ≡ 
 unfolding nothing
 literal-whole s at e l = ap passed (let k : e ≡ at + (1 + (e - at - 1)) = omega (arith, l .ends) in k) ∙ sym (literal-read nothing s at e l)
 
-pub literal-closed : (s : List ℕ) (at e : ℕ) (r : Found) → at < length s → quote (getD s at 0) ≡ true → r ≡ first-place (getD s at 0 ∷ []) s (at + 1) → r ≡ Here e → said (At (e + 1)) ≡ read (parse-quoted nothing) s at
+pub literal-closed : (s : List ℕ) (at e : ℕ) (r : Found) → at < length s → quote (getD s at 0) ≡ true → found r ≡ first-place (getD s at 0 ∷ []) s (at + 1) → r ≡ Here e → said (At (e + 1)) ≡ read (parse-quoted nothing) s at
 unfolding said
 literal-closed s at e r h y f l = let (c, d) = was-here (getD s at 0 ∷ []) s (at + 1) r f e l in literal-whole s at (e + 1) (record { inside = h; opens = y; closes = c; ends = rw d })
 

@@ -18,7 +18,7 @@ use Rattle.spec.specs.Reading.Scan.{Scan, scan}
 use Rattle.spec.specs.Reading.Source.{checked}
 use Rattle.spec.specs.Reading.Wellformed.{check-chars}
 use Rattle.scan.specs.declared.calls.Scanned.{Scanned}
-use Rattle.scan.specs.Answers.{scanned, admitted-answer}
+use Rattle.scan.specs.Answers.{gives, scan-gives}
 use Rattle.gate.specs.declared.state.Gate.{Gate}
 use Rattle.gate.specs.declared.state.Reply.the-variants.{Open, Number}
 use Rattle.gate.specs.declared.state.Docked.{Docked}
@@ -83,13 +83,13 @@ reply-is g h zero f = rw f
 reply-is g h (suc n) f = rw f
 
 -- s is what the scan gave, and b whether it is "not closed"
-module _ (g : Gate) (w : List ℕ) (s : Scanned) (b : Bool) (a : s ≡ admitted-answer w) (e : b ≡ unclosed s) where
+module _ (g : Gate) (w : List ℕ) (s : Scanned) (b : Bool) (a : scan-gives s ≡ gives (scan w)) (e : b ≡ unclosed (scan-gives s)) where
   -- so it is answered "open", or the whole check decides
   decided : (x : Bool) → b ≡ x → scan-decides g w ≡ pick x (record { left = leave-open (recorded g); answer = says-open }) (numbered g (number-of (check-doctype appendix-B w)))
-  unfolding scan-decides unclosed numbered admitted-answer
+  unfolding scan-decides unclosed numbered
   decided x t = go (scan w) (sym t ∙ e ∙ ap unclosed a)
     where
-      go : (y : Scan) → x ≡ unclosed (scanned y) → by-scan appendix-B y (recorded g) w ≡ pick x (record { left = leave-open (recorded g); answer = says-open }) (answered (recorded g) (number-of (check-doctype appendix-B w)))
+      go : (y : Scan) → x ≡ unclosed (gives y) → by-scan appendix-B y (recorded g) w ≡ pick x (record { left = leave-open (recorded g); answer = says-open }) (answered (recorded g) (number-of (check-doctype appendix-B w)))
       go Rule.not-opened f = rw f
       go Rule.not-closed f = rw f
       go (Rule.closed i) f = rw f

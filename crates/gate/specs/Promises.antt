@@ -6,9 +6,8 @@ use Prim.Native.Nat.{ℕ}
 use Rattle.spec.specs.Grammar.AppendixB.{appendix-B}
 use Rattle.spec.specs.Reading.Gate as G
 use Rattle.spec.specs.Reading.Gate.{Record, Outcome, Says, says-open, says, answered, by-scan}
-use Rattle.spec.specs.Reading.Scan.{scan}
-use Rattle.scan.specs.declared.calls.Scanned.{Scanned}
-use Rattle.scan.specs.declared.calls.Scanned.the-variants.{NotOpened, NotClosed, Closed, Refused}
+use Rattle.spec.specs.Reading.Scan.{not-opened, not-closed, closed, scan}
+use Rattle.scan.specs.Answers.{Gives, gives, gives-none}
 use Rattle.gate.specs.declared.state.Gate.{Gate}
 use Rattle.gate.specs.declared.state.Reply.{Reply}
 use Rattle.gate.specs.declared.state.Reply.the-variants.{Open, Number}
@@ -30,11 +29,11 @@ docked d = record { left = recorded (d .gate); answer = replied (d .reply) }
 unfoldable pub numbered : Gate → ℕ → Outcome
 numbered g n = answered (recorded g) n
 
-unfoldable pub unclosed : Scanned → Bool
-unclosed NotOpened = false
-unclosed NotClosed = true
-unclosed (Closed i) = false
-unclosed (Refused n) = false
+unfoldable pub unclosed : Gives → Bool
+unclosed (gives not-opened) = false
+unclosed (gives not-closed) = true
+unclosed (gives (closed i)) = false
+unclosed gives-none = false
 
 unfoldable pub scan-decides : Gate → List ℕ → Outcome
 scan-decides g w = by-scan appendix-B (scan w) (recorded g) w

@@ -13,6 +13,7 @@ use scan::Scanned;
 use scan::scan_admitted;
 use source::admit;
 ghost use mathlib.Core.Path.{_≡_};
+ghost use Rattle.scan.specs.Answers.{scan-gives};
 ghost use Rattle.gate.specs.Promises.{docked, numbered, unclosed, scan-decides, Declares, Docks};
 
 // The phase in which a DOCTYPE may stand.
@@ -58,7 +59,7 @@ fn answered(g: Gate, number: u8) -> Docked
 
 // Whether the scan says "not closed".
 fn is_unclosed(s: Scanned) -> bool
-    ensures { λ r. ⌜ r ≡ unclosed s ⌝ }
+    ensures { λ r. ⌜ r ≡ unclosed (scan-gives s) ⌝ }
 {
     match s {
         Scanned::NotOpened => false,

@@ -12,7 +12,7 @@ pub record Stands (c : Cursor) (text : RefT (List ℕ)) (at : ℕ) : Type 0 wher
   pub same-text : c .text ≡ text
   pub place : c .at ≡ at
 
--- the byte that the rest of a text begins with
-unfoldable pub peeked : List ℕ → Next
-peeked [] = End
-peeked (b ∷ w) = Byte b
+-- what is read next: one byte, or none
+unfoldable pub next : Next → List ℕ
+next (Byte b) = b ∷ []
+next End = []

@@ -9,12 +9,12 @@ use places::name_at;
 ghost use mathlib.Core.Path.{_≡_};
 ghost use Prim.Native.Nat.{_+_};
 ghost use lib.Dec.{leb};
-ghost use lib.ListN.{length, drop};
+ghost use lib.ListN.{length, take, drop};
 ghost use Rattle.spec.specs.Grammar.AppendixB.{appendix-B};
 ghost use Rattle.spec.specs.Grammar.Characters.{space};
 ghost use Rattle.spec.specs.Reading.Readers.{run};
 ghost use Rattle.names.specs.NamePart.{NamePart};
-ghost use Rattle.lent.specs.Places.{Stands, peeked};
+ghost use Rattle.lent.specs.Places.{Stands, next};
 
 pub struct Cursor<'a> {
     pub text: &'a [u8],
@@ -36,7 +36,7 @@ pub fn at_end<'a>(c: Cursor<'a>) -> bool
 
 // The next byte, where the Rust gives the next character.
 pub fn peek<'a>(c: Cursor<'a>) -> Next
-    ensures { λ r. ⌜ r ≡ peeked (drop (c .entry .at) (now (c .entry .text))) ⌝ }
+    ensures { λ r. ⌜ next r ≡ take 1 (drop (c .entry .at) (now (c .entry .text))) ⌝ }
 {
     byte_at(c.text, c.at)
 }

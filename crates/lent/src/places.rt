@@ -4,10 +4,10 @@ use classes::Names;
 use names::parse_name;
 ghost use mathlib.Core.Path.{_≡_};
 ghost use lib.Dec.{leb};
-ghost use lib.ListN.{length, drop};
+ghost use lib.ListN.{length, take, drop};
 ghost use Rattle.spec.specs.Grammar.AppendixB.{appendix-B};
 ghost use Rattle.names.specs.NamePart.{NamePart};
-ghost use Rattle.lent.specs.Places.{peeked};
+ghost use Rattle.lent.specs.Places.{next};
 
 // What is read next: a byte, or nothing.
 pub enum Next {
@@ -22,7 +22,7 @@ pub fn ends_at(text: &[u8], at: usize) -> bool
 }
 
 pub fn byte_at(text: &[u8], at: usize) -> Next
-    ensures { λ r. ⌜ r ≡ peeked (drop at (now (text .entry))) ⌝ }
+    ensures { λ r. ⌜ next r ≡ take 1 (drop at (now (text .entry))) ⌝ }
 {
     if at < text.len() {
         return Next::Byte(text[at]);

@@ -21,7 +21,7 @@ use Rattle.error.specs.Read.{passed, said, read}
 use Rattle.error.specs.declared.Answer.the-variants.{At, No}
 use Rattle.utf8.proofs.Points.{points}
 use Rattle.search.specs.FirstPlace.{first-place}
-use Rattle.search.specs.Places.{place-from, either}
+use Rattle.search.specs.Places.{found, place-from, either}
 use Rattle.search.specs.declared.places.Found.{Found}
 use Rattle.search.specs.declared.places.Found.the-variants.{Here, Nowhere}
 use Rattle.search.proofs.Finding.{starts-first, was-nowhere, was-here, here-onward, here-fits}
@@ -29,7 +29,7 @@ use Rattle.search.proofs.Outside.{outside-one}
 use Rattle.search.proofs.Placing.{from-nowhere, from-here}
 
 -- r is what is found of the '>' that ends a body
-module _ (s : List ℕ) (i : ℕ) (r : Found) (a : r ≡ place-from (outside (either 62 62) 0) s i) where
+module _ (s : List ℕ) (i : ℕ) (r : Found) (a : found r ≡ place-from (outside (either 62 62) 0) s i) where
   pub body-open : (m : ℕ) → r ≡ Nowhere → m ≡ number unterminated → said (No m i) ≡ read take-decl-body s i
   unfolding read said take-decl-body
   body-open m b e = rw (← outside-one, from-nowhere (outside (either 62 62) 0) s i r a b, e, add-zero)
@@ -65,7 +65,7 @@ module _ (D : Dialect) (t : List ℕ) (i : ℕ) (inv : has-pe-reference D (drop 
   pe-end h = rw (drop-end t i h) at inv
 
   -- r is where the next '%' stands
-  module _ (r : Found) (a : r ≡ first-place (37 ∷ []) t i) where
+  module _ (r : Found) (a : found r ≡ first-place (37 ∷ []) t i) where
     pub pe-absent : r ≡ Nowhere → false ≡ has-pe-reference D t
     pe-absent e = sym (pe-none D (drop i t) (was-nowhere (37 ∷ []) t i r a e)) ∙ inv
 

@@ -23,6 +23,7 @@ use Rattle.error.specs.declared.Answer.{Answer}
 use Rattle.error.specs.declared.Answer.the-variants.{At, No}
 use Rattle.error.proofs.Laws.{was-ok, was-err}
 use Rattle.search.specs.FirstPlace.{first-place}
+use Rattle.search.specs.Places.{found}
 use Rattle.search.specs.declared.places.Found.{Found}
 use Rattle.search.specs.declared.places.Found.the-variants.{Here, Nowhere}
 use Rattle.search.proofs.Finding.{was-nowhere, was-here, places-found}
@@ -53,7 +54,7 @@ module _ (D : Dialect) (t : List ℕ) (at : ℕ) (r : Answer) (a : said r ≡ re
         go i f (no-name g _) l = absurd (err-ok bad-name i (sym g ∙ f))
 
     -- c is where a colon stands in it
-    module _ (c : Found) (d : c ≡ first-place (ascii ":") t at) where
+    module _ (c : Found) (d : found c ≡ first-place (ascii ":") t at) where
       pub target-colon : (j m : ℕ) → c ≡ Here j → m ≡ number has-colon → said (No m j) ≡ read (check-target D) t at
       unfolding read said check-target
       target-colon j m y f =

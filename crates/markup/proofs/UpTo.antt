@@ -22,13 +22,14 @@ use Rattle.error.specs.declared.Answer.the-variants.{At, No}
 use Rattle.error.proofs.Laws.{was-ok, was-err}
 use Rattle.search.proofs.Words.{word-yes, word-no, by-words}
 use Rattle.search.specs.FirstPlace.{first-place}
+use Rattle.search.specs.Places.{found}
 use Rattle.search.specs.declared.places.Found.{Found}
 use Rattle.search.specs.declared.places.Found.the-variants.{Here, Nowhere}
 use Rattle.search.proofs.Finding.{was-nowhere, was-here, places-found}
 use Rattle.cursor.proofs.Reading.{left-of}
 
 -- the word k was looked for from a place on, which gave r; c is what the check answers where what stands before it is all there is
-module _ (k : String) (n : Refusal) (check : List ℕ → Result) (s : List ℕ) (at : ℕ) (r : Found) (a : r ≡ first-place (ascii k) s at) where
+module _ (k : String) (n : Refusal) (check : List ℕ → Result) (s : List ℕ) (at : ℕ) (r : Found) (a : found r ≡ first-place (ascii k) s at) where
   pub up-to-nowhere : (m : ℕ) → r ≡ Nowhere → m ≡ number n → said (No m at) ≡ read (up-to k n check) s at
   unfolding read said up-to refuse
   up-to-nowhere m b e = rw (was-nowhere (ascii k) s at r a b, e, add-zero)
@@ -85,7 +86,7 @@ longer p x (b ∷ w) c e = go (starts p (b ∷ w)) refl c e (longer p x w)
         rw (no→false (starts (p ++ x) (b ∷ w)) (λ z. true≢false (sym (starts-part p x (b ∷ w) (T→true _ z)) ∙ f))) (g, ap suc h)
 
 -- a comment whose first "--", at j, is that of a "-->"
-pub comment-once : (s : List ℕ) (at j : ℕ) (r : Found) (b : Bool) (n : Refusal) → r ≡ first-place (ascii "--") s at → r ≡ Here j → b ≡ starts (ascii "-->") (drop j s) → b ≡ true → said (At (j + 3)) ≡ read (up-to "-->" n check-comment) s at
+pub comment-once : (s : List ℕ) (at j : ℕ) (r : Found) (b : Bool) (n : Refusal) → found r ≡ first-place (ascii "--") s at → r ≡ Here j → b ≡ starts (ascii "-->") (drop j s) → b ≡ true → said (At (j + 3)) ≡ read (up-to "-->" n check-comment) s at
 unfolding read said up-to check-comment choose nothing
 comment-once s at j r b n a d e f =
     let (c, k) = was-here (ascii "--") s at r a j d in
@@ -100,7 +101,7 @@ pub word-end : (p s : List ℕ) (at l : ℕ) (b : Bool) (n : Refusal) → b ≡ 
 word-end p s at l b n e f d = rw d (word-yes p s at b e n f)
 
 -- a comment's text: the first "--" in it, as r says
-module _ (t : List ℕ) (at : ℕ) (r : Found) (a : r ≡ first-place (ascii "--") t at) where
+module _ (t : List ℕ) (at : ℕ) (r : Found) (a : found r ≡ first-place (ascii "--") t at) where
   pub comment-twice : (j m : ℕ) → r ≡ Here j → m ≡ number double-hyphen → said (No m j) ≡ read check-comment t at
   unfolding read said check-comment choose refuse-at
   comment-twice j m b e = let (c, l) = was-here (ascii "--") t at r a j b in rw (c, e, l)

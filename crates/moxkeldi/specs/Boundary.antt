@@ -2,41 +2,34 @@
 use mathlib.Core.Path.{_≡_}
 use mathlib.Core.List.{List}
 use Prim.Native.Nat.{ℕ}
-use Rattle.scan.specs.Answers.{Scans}
+use Rattle.spec.specs.Reading.Scan.{not-opened, not-closed, closed}
+use Rattle.scan.specs.Answers.{Gives, gives, gives-none, scan-number, scan-gives, Scans}
 use Rattle.scan.specs.declared.calls.Scanned.{Scanned}
-use Rattle.scan.specs.declared.calls.Scanned.the-variants.{NotOpened, NotClosed, Closed, Refused}
 use Rattle.gate.specs.Promises.{Docks}
 use Rattle.gate.specs.declared.state.Gate.{Gate}
 use Rattle.gate.specs.declared.state.Reply.{Reply}
 use Rattle.gate.specs.declared.state.Reply.the-variants.{Open, Number}
 
--- the number that a scan returns
-unfoldable pub scan-number : Scanned → ℕ
-scan-number NotOpened = 0
-scan-number NotClosed = 0
-scan-number (Closed i) = 0
-scan-number (Refused n) = n
+-- what a scan leaves in *answer and in *place, from what was there
+unfoldable pub scan-answer : Gives → ℕ → ℕ
+scan-answer (gives not-opened) a = 0
+scan-answer (gives not-closed) a = 1
+scan-answer (gives (closed i)) a = 2
+scan-answer gives-none a = a
 
--- what it leaves in *answer and in *place, from what was there
-unfoldable pub scan-answer : Scanned → ℕ → ℕ
-scan-answer NotOpened a = 0
-scan-answer NotClosed a = 1
-scan-answer (Closed i) a = 2
-scan-answer (Refused n) a = a
-
-unfoldable pub scan-place : Scanned → ℕ → ℕ
-scan-place NotOpened p = p
-scan-place NotClosed p = p
-scan-place (Closed i) p = i
-scan-place (Refused n) p = p
+unfoldable pub scan-place : Gives → ℕ → ℕ
+scan-place (gives not-opened) p = p
+scan-place (gives not-closed) p = p
+scan-place (gives (closed i)) p = i
+scan-place gives-none p = p
 
 -- moxkeldi_scan on the places a and p returns n and leaves b and q in them: the scan's promise, in numbers
 pub record ScansInto (w : List ℕ) (a p n b q : ℕ) : Type 0 where
   pub says : Scanned
   pub scans : Scans w says
   pub number : n ≡ scan-number says
-  pub answer : b ≡ scan-answer says a
-  pub place : q ≡ scan-place says p
+  pub answer : b ≡ scan-answer (scan-gives says) a
+  pub place : q ≡ scan-place (scan-gives says) p
 
 -- a reply of the gate as a number: MOXKELDI_OPEN for "open"
 unfoldable pub code-of : Reply → ℕ

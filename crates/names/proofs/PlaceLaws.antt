@@ -39,7 +39,7 @@ module _ (q : ℕ → Bool) (s : List ℕ) (i : ℕ) where
   unfolding char decode1
   none-past h = rw (drop-end s i h)
 
-  module _ (p : Point) (a : p ≡ seen (decode1 (drop i s))) where
+  module _ (p : Point) (a : seen p ≡ decode1 (drop i s)) where
     pub none-point : p ≡ Not → char q bad-name (drop i s) ≡ err bad-name 0
     none-point b = char-none q bad-name (drop i s) (none-at s i p a b)
 

@@ -26,7 +26,7 @@ use Rattle.spec.proofs.Base.Tests.{and-left, decide}
 use Rattle.spec.proofs.Prolog.Misc.{begins-sign}
 use Rattle.spec.proofs.Prolog.Turns.{moved, moved-none, next-space, next-comment, next-cut-comment, next-declaration, next-instruction, next-cut-instruction, next-doctype, next-other}
 use Rattle.search.specs.FirstPlace.{first-place}
-use Rattle.search.specs.Places.{place-from}
+use Rattle.search.specs.Places.{found, place-from}
 use Rattle.search.specs.declared.places.Found.{Found}
 use Rattle.search.specs.declared.places.Found.the-variants.{Here, Nowhere}
 use Rattle.search.proofs.Finding.{places-found}
@@ -34,7 +34,7 @@ use Rattle.search.proofs.Placing.{from-nowhere, from-here}
 use Rattle.search.proofs.Words.{word-fits}
 use Rattle.prolog.specs.declared.items.Item.{Item}
 use Rattle.prolog.specs.declared.items.Item.the-variants.{Declaration, Doctype, Other, CutOff, CutDoctype}
-use Rattle.prolog.specs.Answers.{placed-item, item-from, misc-end, begun}
+use Rattle.prolog.specs.Answers.{item, later-item, item-from, misc-end, begun}
 use Rattle.prolog.proofs.Ends.{word-from}
 
 -- one sign of five
@@ -59,14 +59,14 @@ declared-fits s from c e f h =
     omega (arith, ap length g, length-drop from s)
 
 -- the rule's place from the code's, with what was passed before it: of any search, and of a word
-module _ (f : List ℕ → Place) (s : List ℕ) (from m : ℕ) (r : Found) (a : r ≡ place-from f s (from + m)) where
+module _ (f : List ℕ → Place) (s : List ℕ) (from m : ℕ) (r : Found) (a : found r ≡ place-from f s (from + m)) where
   past-nowhere : r ≡ Nowhere → f (drop m (drop from s)) ≡ nowhere
   past-nowhere b = rw drop-drop (from-nowhere f s (from + m) r a b)
 
   past-here : (j : ℕ) → r ≡ Here j → (n : ℕ) × (f (drop m (drop from s)) ≡ at n) × (j ≡ from + m + n)
   past-here j b = rw drop-drop (from-here f s (from + m) r a j b)
 
-module _ (k : String) (s : List ℕ) (from m : ℕ) (r : Found) (a : r ≡ first-place (ascii k) s (from + m)) where
+module _ (k : String) (s : List ℕ) (from m : ℕ) (r : Found) (a : found r ≡ first-place (ascii k) s (from + m)) where
   word-none : r ≡ Nowhere → word-at k (drop m (drop from s)) ≡ nowhere
   word-none = past-nowhere (word-at k) s from m r (a ∙ word-from k s (from + m))
 
@@ -75,70 +75,70 @@ module _ (k : String) (s : List ℕ) (from m : ℕ) (r : Found) (a : r ≡ first
 
 -- misc_end: t whether a comment begins, d whether a declaration, i whether an instruction, r where it is found to end
 module _ (s : List ℕ) (from : ℕ) (t : Bool) (a : t ≡ starts (ascii "<!--") (drop from s)) where
-  module _ (b : t ≡ true) (r : Found) (e : r ≡ first-place (ascii "-->") s (from + 4)) where
-    pub misc-comment-cut : r ≡ Nowhere → Nowhere ≡ place-from misc-end s from
-    unfolding place-from misc-end
+  module _ (b : t ≡ true) (r : Found) (e : found r ≡ first-place (ascii "-->") s (from + 4)) where
+    pub misc-comment-cut : r ≡ Nowhere → found Nowhere ≡ place-from misc-end s from
+    unfolding found place-from misc-end
     misc-comment-cut f = rw (sym a ∙ b, word-none "-->" s from 4 r e f)
 
-    pub misc-comment : (j : ℕ) → r ≡ Here j → Here (j + 3) ≡ place-from misc-end s from
-    unfolding place-from misc-end
+    pub misc-comment : (j : ℕ) → r ≡ Here j → found (Here (j + 3)) ≡ place-from misc-end s from
+    unfolding found place-from misc-end
     misc-comment j f =
         let (n, g, h) = word-some "-->" s from 4 r e j f in
         let m : j + 3 ≡ from + (7 + n) = omega arith in
-        ap Here m ∙ (rw (sym a ∙ b, g))
+        ap at m ∙ (rw (sym a ∙ b, g))
 
   module _ (b : t ≡ false) (d : Bool) (c : d ≡ is-declaration (drop from s)) where
-    pub misc-declaration : d ≡ true → Here from ≡ place-from misc-end s from
-    unfolding place-from misc-end
+    pub misc-declaration : d ≡ true → found (Here from) ≡ place-from misc-end s from
+    unfolding found place-from misc-end
     misc-declaration f = rw (sym a ∙ b, sym c ∙ f, add-zero)
 
     module _ (f : d ≡ false) (i : Bool) (g : i ≡ starts (ascii "<?") (drop from s)) where
-      pub misc-none : i ≡ false → Here from ≡ place-from misc-end s from
-      unfolding place-from misc-end
+      pub misc-none : i ≡ false → found (Here from) ≡ place-from misc-end s from
+      unfolding found place-from misc-end
       misc-none h = rw (sym a ∙ b, sym c ∙ f, sym g ∙ h, add-zero)
 
-      module _ (h : i ≡ true) (r : Found) (e : r ≡ first-place (ascii "?>") s (from + 2)) where
-        pub misc-instruction-cut : r ≡ Nowhere → Nowhere ≡ place-from misc-end s from
-        unfolding place-from misc-end
+      module _ (h : i ≡ true) (r : Found) (e : found r ≡ first-place (ascii "?>") s (from + 2)) where
+        pub misc-instruction-cut : r ≡ Nowhere → found Nowhere ≡ place-from misc-end s from
+        unfolding found place-from misc-end
         misc-instruction-cut k = rw (sym a ∙ b, sym c ∙ f, sym g ∙ h, word-none "?>" s from 2 r e k)
 
-        pub misc-instruction : (j : ℕ) → r ≡ Here j → Here (j + 2) ≡ place-from misc-end s from
-        unfolding place-from misc-end
+        pub misc-instruction : (j : ℕ) → r ≡ Here j → found (Here (j + 2)) ≡ place-from misc-end s from
+        unfolding found place-from misc-end
         misc-instruction j k =
             let (n, l, o) = word-some "?>" s from 2 r e j k in
             let m : j + 2 ≡ from + (4 + n) = omega arith in
-            ap Here m ∙ (rw (sym a ∙ b, sym c ∙ f, sym g ∙ h, l))
+            ap at m ∙ (rw (sym a ∙ b, sym c ∙ f, sym g ∙ h, l))
 
 -- begun: d whether a declaration begins, t whether a DOCTYPE, r where it is found to end
 module _ (s : List ℕ) (from : ℕ) (d : Bool) (c : d ≡ is-declaration (drop from s)) where
-  module _ (f : d ≡ true) (r : Found) (e : r ≡ first-place (ascii "?>") s (from + 2)) where
-    pub begun-declaration-cut : r ≡ Nowhere → CutOff from ≡ item-from begun s from
-    unfolding item-from begun
+  module _ (f : d ≡ true) (r : Found) (e : found r ≡ first-place (ascii "?>") s (from + 2)) where
+    pub begun-declaration-cut : r ≡ Nowhere → item (CutOff from) ≡ item-from begun s from
+    unfolding item item-from begun
     begun-declaration-cut k = rw (sym c ∙ f, word-none "?>" s from 2 r e k, add-zero)
 
-    pub begun-declaration : (j : ℕ) → r ≡ Here j → Declaration (from + 2) j ≡ item-from begun s from
-    unfolding item-from begun
+    pub begun-declaration : (j : ℕ) → r ≡ Here j → item (Declaration (from + 2) j) ≡ item-from begun s from
+    unfolding item item-from begun
     begun-declaration j k =
         let (n, l, o) = word-some "?>" s from 2 r e j k in
         let m : j ≡ from + (2 + n) = omega arith in
-        ap (Declaration (from + 2)) m ∙ (rw (sym c ∙ f, l))
+        ap (Rule.declaration (from + 2)) m ∙ (rw (sym c ∙ f, l))
 
   module _ (f : d ≡ false) (t : Bool) (a : t ≡ starts (ascii "<!DOCTYPE") (drop from s)) where
-    pub begun-other : t ≡ false → Other from ≡ item-from begun s from
-    unfolding item-from begun
+    pub begun-other : t ≡ false → item (Other from) ≡ item-from begun s from
+    unfolding item item-from begun
     begun-other b = rw (sym c ∙ f, sym a ∙ b, add-zero)
 
-    module _ (b : t ≡ true) (r : Found) (e : r ≡ place-from doctype-end s (from + 9)) where
-      pub begun-doctype-cut : r ≡ Nowhere → CutDoctype from ≡ item-from begun s from
-      unfolding item-from begun
+    module _ (b : t ≡ true) (r : Found) (e : found r ≡ place-from doctype-end s (from + 9)) where
+      pub begun-doctype-cut : r ≡ Nowhere → item (CutDoctype from) ≡ item-from begun s from
+      unfolding item item-from begun
       begun-doctype-cut k = rw (sym c ∙ f, sym a ∙ b, past-nowhere doctype-end s from 9 r e k, add-zero)
 
-      pub begun-doctype : (j : ℕ) → r ≡ Here j → Doctype (from + 9) j ≡ item-from begun s from
-      unfolding item-from begun
+      pub begun-doctype : (j : ℕ) → r ≡ Here j → item (Doctype (from + 9) j) ≡ item-from begun s from
+      unfolding item item-from begun
       begun-doctype j k =
           let (n, l, o) = past-here doctype-end s from 9 r e j k in
           let m : j ≡ from + (9 + n) = omega arith in
-          ap (Doctype (from + 9)) m ∙ (rw (sym c ∙ f, sym a ∙ b, l))
+          ap (Rule.doctype (from + 9)) m ∙ (rw (sym c ∙ f, sym a ∙ b, l))
 
 -- The rule's turn in two parts. Over white space:
 run-again : (w : List ℕ) → run space (drop (run space w) w) ≡ 0
@@ -186,43 +186,47 @@ module _ (w : List ℕ) (z : run space w ≡ 0) where
 
 -- The loop of next_item. The invariant: what is next from i on is what is next, W; e is the place after the white space, and p says
 -- where what begins there ends.
-placed-moved : (k n : ℕ) (x : Rule.Item) → placed-item k (moved n x) ≡ placed-item (k + n) x
-placed-moved k n (Rule.declaration i j) = simp add-assoc
-placed-moved k n (Rule.doctype i j) = simp add-assoc
-placed-moved k n (Rule.other i) = simp add-assoc
-placed-moved k n (Rule.cut-off i) = simp add-assoc
-placed-moved k n (Rule.cut-doctype i) = simp add-assoc
+item-moved : (k n : ℕ) (x : Rule.Item) → later-item k (moved n x) ≡ later-item (k + n) x
+item-moved k n (Rule.declaration i j) = simp add-assoc
+item-moved k n (Rule.doctype i j) = simp add-assoc
+item-moved k n (Rule.other i) = simp add-assoc
+item-moved k n (Rule.cut-off i) = simp add-assoc
+item-moved k n (Rule.cut-doctype i) = simp add-assoc
 
 next-nothing : next-item [] ≡ Rule.other 0
 unfolding next-item Rule.item-fuel run starts is-declaration
 next-nothing = refl
 
-module _ (s : List ℕ) (i : ℕ) (W : Item) (inv : placed-item i (next-item (drop i s)) ≡ W) where
-  pub next-end : length s ≤ i → Other i ≡ W
+module _ (s : List ℕ) (i : ℕ) (W : Rule.Item) (inv : item-from next-item s i ≡ W) where
+  pub next-end : length s ≤ i → item (Other i) ≡ W
+  unfolding item item-from
   next-end h = rw (drop-end s i h, next-nothing, add-zero) at inv
 
   module _ (e : ℕ) (a : e ≡ i + run space (drop i s)) where
     no-space : run space (drop e s) ≡ 0
     no-space = rw (a, ← drop-drop) (run-again (drop i s))
 
-    here : placed-item e (by-end (drop e s) (misc-end (drop e s))) ≡ W
+    here : later-item e (by-end (drop e s) (misc-end (drop e s))) ≡ W
+    unfolding item-from
     here =
         rw (← by-misc (drop e s) no-space)
-        (rw (over-space (drop i s), placed-moved i (run space (drop i s)) (next-item (drop (run space (drop i s)) (drop i s))), drop-drop, ← a) at inv)
+        (rw (over-space (drop i s), item-moved i (run space (drop i s)) (next-item (drop (run space (drop i s)) (drop i s))), drop-drop, ← a) at inv)
 
-    module _ (p : Found) (b : p ≡ place-from misc-end s e) where
-      pub next-cut : p ≡ Nowhere → CutOff e ≡ W
+    module _ (p : Found) (b : found p ≡ place-from misc-end s e) where
+      pub next-cut : p ≡ Nowhere → item (CutOff e) ≡ W
+      unfolding item
       next-cut c = rw (from-nowhere misc-end s e p b c, add-zero) at here
 
       module _ (j : ℕ) (c : p ≡ Here j) where
-        pub next-on : (j ≡ e → ⊥) → placed-item j (next-item (drop j s)) ≡ W
+        pub next-on : (j ≡ e → ⊥) → item-from next-item s j ≡ W
+        unfolding item-from
         next-on d =
             let (n, f, g) = from-here misc-end s e p b j c in
             let l : n ≡ suc (n - 1) = omega arith in
             let m : e + suc (n - 1) ≡ j = omega arith in
-            rw (f ∙ ap at l, placed-moved e (suc (n - 1)) (next-item (drop (suc (n - 1)) (drop e s))), drop-drop, m) at here
+            rw (f ∙ ap at l, item-moved e (suc (n - 1)) (next-item (drop (suc (n - 1)) (drop e s))), drop-drop, m) at here
 
-        pub next-begun : (r : Item) → j ≡ e → r ≡ item-from begun s e → r ≡ W
+        pub next-begun : (r : Item) → j ≡ e → item r ≡ item-from begun s e → item r ≡ W
         unfolding item-from
         next-begun r d h =
             let (n, f, g) = from-here misc-end s e p b j c in
@@ -230,7 +234,7 @@ module _ (s : List ℕ) (i : ℕ) (W : Item) (inv : placed-item i (next-item (dr
             h ∙ (rw (f ∙ ap at z) at here)
 
 -- each turn comes further
-pub next-less : (s : List ℕ) (i e : ℕ) (p : Found) (j : ℕ) → e ≡ i + run space (drop i s) → p ≡ place-from misc-end s e → p ≡ Here j → (j ≡ e → ⊥) → i < length s → length s - j < length s - i
+pub next-less : (s : List ℕ) (i e : ℕ) (p : Found) (j : ℕ) → e ≡ i + run space (drop i s) → found p ≡ place-from misc-end s e → p ≡ Here j → (j ≡ e → ⊥) → i < length s → length s - j < length s - i
 next-less s i e p j a b c d h = let (n, f, g) = from-here misc-end s e p b j c in omega arith
 
 pub ruleset turns = (target-signs, declared-no, declared-by, declared-fits, word-fits, places-found, misc-comment-cut, misc-comment, misc-declaration, misc-none, misc-instruction-cut, misc-instruction, needs)

@@ -1,4 +1,4 @@
--- The code's answers: the rule's places, counted from the text's first byte. Assumes nothing: these are definitions.
+-- The code's answers in the rule's words, and the rule's items, counted from the text's first byte. Assumes nothing: these are definitions.
 use mathlib.Core.List.{List}
 use Prim.Native.Nat.{ℕ, _+_}
 use lib.ListN.{drop}
@@ -11,16 +11,24 @@ use Rattle.spec.specs.Reading.Places.{Place, at, later}
 use Rattle.prolog.specs.declared.items.Item.{Item}
 use Rattle.prolog.specs.declared.items.Item.the-variants.{Declaration, Doctype, Other, CutOff, CutDoctype}
 
--- what the rule says of the bytes from a place on
-abbrev pub placed-item : ℕ → Rule.Item → Item
-placed-item from (Rule.declaration i j) = Declaration (from + i) (from + j)
-placed-item from (Rule.doctype i j) = Doctype (from + i) (from + j)
-placed-item from (Rule.other i) = Other (from + i)
-placed-item from (Rule.cut-off i) = CutOff (from + i)
-placed-item from (Rule.cut-doctype i) = CutDoctype (from + i)
+unfoldable pub item : Item → Rule.Item
+item (Declaration i j) = Rule.declaration i j
+item (Doctype i j) = Rule.doctype i j
+item (Other i) = Rule.other i
+item (CutOff i) = Rule.cut-off i
+item (CutDoctype i) = Rule.cut-doctype i
 
-unfoldable pub item-from : (List ℕ → Rule.Item) → List ℕ → ℕ → Item
-item-from f s from = placed-item from (f (drop from s))
+-- an item that is counted from a place, counted from the text's first byte
+abbrev pub later-item : ℕ → Rule.Item → Rule.Item
+later-item from (Rule.declaration i j) = Rule.declaration (from + i) (from + j)
+later-item from (Rule.doctype i j) = Rule.doctype (from + i) (from + j)
+later-item from (Rule.other i) = Rule.other (from + i)
+later-item from (Rule.cut-off i) = Rule.cut-off (from + i)
+later-item from (Rule.cut-doctype i) = Rule.cut-doctype (from + i)
+
+-- what the rule says of the bytes from a place on
+unfoldable pub item-from : (List ℕ → Rule.Item) → List ℕ → ℕ → Rule.Item
+item-from f s from = later-item from (f (drop from s))
 
 -- A turn of the rule, in two parts. How far a comment or an instruction that begins the text goes; no byte, where neither does:
 unfoldable pub misc-end : List ℕ → Place

@@ -9,8 +9,8 @@ ghost use mathlib.Core.Path.{_≡_};
 ghost use lib.ListN.{drop};
 ghost use Rattle.spec.specs.Grammar.Languages.{one-of};
 ghost use Rattle.spec.specs.Reading.Prolog.{is-declaration, next-item};
-ghost use Rattle.search.specs.Places.{place-from};
-ghost use Rattle.prolog.specs.Answers.{item-from, placed-item, misc-end, begun};
+ghost use Rattle.search.specs.Places.{found, place-from};
+ghost use Rattle.prolog.specs.Answers.{item, item-from, misc-end, begun};
 
 // An XML declaration or a DOCTYPE, by where the text between "<?" and "?>", or between "<!DOCTYPE" and '>', begins and ends; the place
 // where something else begins, or the bytes end; the place of a comment, instruction or declaration, or of a DOCTYPE, that does not end.
@@ -41,7 +41,7 @@ fn is_declaration(s: &[u8], at: usize) -> bool
 
 // The place after the comment or the instruction that begins here; the same place, if neither does; nowhere, if it does not end.
 fn misc_end(s: &[u8], at: usize) -> Found
-    ensures { λ r. ⌜ r ≡ place-from misc-end (now (s .entry)) at ⌝ }
+    ensures { λ r. ⌜ found r ≡ place-from misc-end (now (s .entry)) at ⌝ }
 {
     if at_keyword(s, at, b"<!--") {
         let r = find(s, at + 4, b"-->");
@@ -65,7 +65,7 @@ fn misc_end(s: &[u8], at: usize) -> Found
 
 // The declaration or the DOCTYPE that begins here, or that something else does.
 fn begun(s: &[u8], at: usize) -> Item
-    ensures { λ r. ⌜ r ≡ item-from begun (now (s .entry)) at ⌝ }
+    ensures { λ r. ⌜ item r ≡ item-from begun (now (s .entry)) at ⌝ }
 {
     if is_declaration(s, at) {
         let from = at + 2;
@@ -89,7 +89,7 @@ fn begun(s: &[u8], at: usize) -> Item
 // The next item from a place on. Each turn passes white space and one comment or instruction, and goes on after it; a search that finds
 // no end is the last one. So the time is linear in the bytes.
 pub fn next_item(text: &[u8], from: usize) -> Item
-    ensures { λ r. ⌜ r ≡ placed-item from (next-item (drop from (now (text .entry)))) ⌝ }
+    ensures { λ r. ⌜ item r ≡ item-from next-item (now (text .entry)) from ⌝ }
 {
     let mut i = from;
     while i < text.len() {

@@ -22,7 +22,7 @@ use Rattle.spec.proofs.Base.Outside.{later-zero, later-suc}
 use Rattle.spec.proofs.Base.Places.{drop-at, drop-end}
 use Rattle.spec.proofs.Base.Tests.{two-signs}
 use Rattle.search.specs.FirstPlace.{first-place}
-use Rattle.search.specs.Places.{placed, place-from, either}
+use Rattle.search.specs.Places.{found, place-from, either}
 use Rattle.search.specs.declared.places.Found.{Found}
 use Rattle.search.specs.declared.places.Found.the-variants.{Here, Nowhere}
 use Rattle.search.proofs.Finding.{was-nowhere, was-here, here-onward, here-fits}
@@ -30,9 +30,9 @@ use Rattle.search.proofs.Outside.{sign-in, sign-less, sign-hit, outside-one, si
 use Rattle.search.proofs.Placing.{from-onward, from-nowhere, from-here}
 
 -- the first pass
-pub open-found : (s : List ℕ) (i : ℕ) (r : Found) → r ≡ place-from (outside (either 91 91) 0) s i → r ≡ place-from subset-open s i
+pub open-found : (s : List ℕ) (i : ℕ) (r : Found) → found r ≡ place-from (outside (either 91 91) 0) s i → found r ≡ place-from subset-open s i
 unfolding place-from
-open-found s i r a = a ∙ ap (λ (p : Place). placed (later i p)) (outside-one 91 0 (drop i s))
+open-found s i r a = a ∙ ap (later i) (outside-one 91 0 (drop i s))
 
 -- The second pass goes on at the next ']' or '<' outside quotes.
 abbrev resumed : List ℕ → Place → Place
@@ -88,15 +88,15 @@ unfolding subset-end
 end-lone w e = rw e
 
 -- The second pass at i. The invariant: what it finds from i on is what is found, W.
-module _ (s : List ℕ) (i : ℕ) (W : Found) (inv : place-from (subset-end 0 0) s i ≡ W) where
-  pub end-over : length s ≤ i → Nowhere ≡ W
-  unfolding place-from subset-end
+module _ (s : List ℕ) (i : ℕ) (W : Place) (inv : place-from (subset-end 0 0) s i ≡ W) where
+  pub end-over : length s ≤ i → found Nowhere ≡ W
+  unfolding found place-from subset-end
   end-over h = rw (drop-end s i h) at inv
 
   -- r is the next place that it looks at
-  module _ (r : Found) (a : r ≡ place-from (outside (either 93 60) 0) s i) where
-    pub end-none : r ≡ Nowhere → Nowhere ≡ W
-    unfolding place-from
+  module _ (r : Found) (a : found r ≡ place-from (outside (either 93 60) 0) s i) where
+    pub end-none : r ≡ Nowhere → found Nowhere ≡ W
+    unfolding found place-from
     end-none e = rw (end-outside 0 (drop i s), from-nowhere (outside (either 93 60) 0) s i r a e) at inv
 
     module _ (j : ℕ) (e : r ≡ Here j) where
@@ -105,8 +105,8 @@ module _ (s : List ℕ) (i : ℕ) (W : Found) (inv : place-from (subset-end 0 0)
           let (n, f, g) = from-here (outside (either 93 60) 0) s i r a j e in
           ap (place-from (subset-end 0 0) s) g ∙ from-onward (subset-end 0 0) s i n (end-outside 0 (drop i s) ∙ ap (resumed (drop i s)) f) ∙ inv
 
-      pub end-here : getD s j 0 ≡ 93 → Here j ≡ W
-      unfolding place-from subset-end
+      pub end-here : getD s j 0 ≡ 93 → found (Here j) ≡ W
+      unfolding found place-from subset-end
       end-here f = (rw add-zero) ∙ (rw (drop-at s j (sign-in (either 93 60) s i r a j e), f) at here)
 
       -- another byte is a '<'; c says whether a comment begins there
@@ -127,9 +127,9 @@ module _ (s : List ℕ) (i : ℕ) (W : Found) (inv : place-from (subset-end 0 0)
           inner v d = sym (drop-drop 4 j s) ∙ ap (drop 4) d
 
           -- q is where its end is found
-          module _ (q : Found) (d : q ≡ first-place (ascii "-->") s (j + 4)) where
-            pub comment-open : q ≡ Nowhere → Nowhere ≡ W
-            unfolding place-from
+          module _ (q : Found) (d : found q ≡ first-place (ascii "-->") s (j + 4)) where
+            pub comment-open : q ≡ Nowhere → found Nowhere ≡ W
+            unfolding found place-from
             comment-open f =
                 let (v, g) = begun in
                 let n : contains (ascii "-->") v ≡ false = ap (contains (ascii "-->")) (sym (inner v g)) ∙ was-nowhere (ascii "-->") s (j + 4) q d f in

@@ -1,4 +1,4 @@
--- The code's answers and the rule's, and what the scan promises. Assumes nothing: these are definitions.
+-- What each of the scan's cases is in document 01, and what the scan promises. Assumes nothing: these are definitions.
 use mathlib.Core.Path.{_≡_}
 use mathlib.Core.List.{List}
 use Prim.Native.Nat.{ℕ, zero, suc}
@@ -11,24 +11,33 @@ use Rattle.spec.specs.Reading.Scan.{Scan}
 use Rattle.scan.specs.declared.calls.Scanned.{Scanned}
 use Rattle.scan.specs.declared.calls.Scanned.the-variants.{NotOpened, NotClosed, Closed, Refused}
 
-abbrev pub scanned : Scan → Scanned
-scanned Rule.not-opened = NotOpened
-scanned Rule.not-closed = NotClosed
-scanned (Rule.closed k) = Closed k
+-- one of the scan's three answers, or none of them
+pub data Gives : Type 0 where
+  gives : Scan → Gives
+  gives-none : Gives
 
--- the written rule on any bytes
-unfoldable pub admitted-answer : List ℕ → Scanned
-admitted-answer w = scanned (Rule.scan w)
+-- the number that comes with each case,
+abbrev pub scan-number : Scanned → ℕ
+scan-number NotOpened = 0
+scan-number NotClosed = 0
+scan-number (Closed i) = 0
+scan-number (Refused n) = n
 
-abbrev pub answer-by : ℕ → List ℕ → Scanned
-answer-by zero w = admitted-answer w
-answer-by (suc n) w = Refused (suc n)
+-- and which of the three answers, if any
+unfoldable pub scan-gives : Scanned → Gives
+scan-gives NotOpened = gives Rule.not-opened
+scan-gives NotClosed = gives Rule.not-closed
+scan-gives (Closed i) = gives (Rule.closed i)
+scan-gives (Refused n) = gives-none
 
--- what scan answers: 1 or 2 where the text may not be looked at, else what the written rule says
-unfoldable pub scan-answer : List ℕ → Scanned
-scan-answer w = answer-by (checked nothing w) w
+-- what the scan has to give after the number in front: where that is 0 the written rule's answer, else none
+abbrev pub by-rule : ℕ → List ℕ → Gives
+by-rule zero w = gives (Rule.scan w)
+by-rule (suc n) w = gives-none
 
--- the scan's promise: on every text the rule's answer, and of a front part of an accepted DOCTYPE the one that demand 3 asks for
+-- the scan's promise: 1 or 2 where the text may not be looked at, else 0; the rule's answer on every text; and of a front part of an
+-- accepted DOCTYPE the one that demand 3 asks for
 pub record Scans (w : List ℕ) (r : Scanned) : Type 0 where
-  pub rule : r ≡ scan-answer w
-  pub cuts : Cuts appendix-B w (λ a. r ≡ scanned a)
+  pub number : scan-number r ≡ checked nothing w
+  pub rule : scan-gives r ≡ by-rule (checked nothing w) w
+  pub cuts : Cuts appendix-B w (λ a. scan-gives r ≡ gives a)

@@ -4,7 +4,8 @@ use crate::subset::subset_open;
 use search::Found;
 use source::admit;
 ghost use mathlib.Core.Path.{_≡_};
-ghost use Rattle.scan.specs.Answers.{Scans, admitted-answer};
+ghost use Rattle.spec.specs.Reading.Scan as Rule;
+ghost use Rattle.scan.specs.Answers.{gives, scan-gives, Scans};
 
 // What the scan says: no subset has opened, one has opened and not closed, it closed at the ']' of this place; or 1 or 2, where the
 // text may not be looked at.
@@ -17,7 +18,7 @@ pub enum Scanned {
 
 // The scan of any bytes. The second pass begins after the byte where the first one stopped.
 pub fn scan_admitted(text: &[u8]) -> Scanned
-    ensures { λ r. ⌜ r ≡ admitted-answer (now (text .entry)) ⌝ }
+    ensures { λ r. ⌜ scan-gives r ≡ gives (Rule.scan (now (text .entry))) ⌝ }
 {
     let o = subset_open(text);
     let Found::Here(i) = o else {

@@ -13,11 +13,13 @@ use lib.Dec.{eqb}
 use lib.ListN.{length, getD, take, drop, length-drop}
 use lib.Seq.{drop-drop}
 use Rattle.spec.specs.Basics.{pick}
+use Rattle.spec.specs.Reading.Places.{Place, at, nowhere}
 use Rattle.spec.specs.Reading.Readers.{run, starts, contains, before}
 use Rattle.spec.proofs.Agreement.Words.{before-within}
 use Rattle.spec.proofs.Base.Places.{drop-at, drop-end, take-rest}
 use Rattle.search.specs.Runs.{away, Skipped}
 use Rattle.search.specs.FirstPlace.{first-place, only}
+use Rattle.search.specs.Places.{found}
 use Rattle.search.specs.declared.places.Found.{Found}
 use Rattle.search.specs.declared.places.Found.the-variants.{Here, Nowhere}
 
@@ -28,15 +30,15 @@ contains-some kw [] e = absurd (true≢false (sym e))
 contains-some kw (b ∷ w) e = omega arith
 
 -- the first place in w, where i is the place of w
-abbrev first-in : List ℕ → List ℕ → ℕ → Found
-first-in kw w i = pick (contains kw w) (Here (i + before kw w)) Nowhere
+abbrev first-in : List ℕ → List ℕ → ℕ → Place
+first-in kw w i = pick (contains kw w) (at (i + before kw w)) nowhere
 
 first-step : (kw : List ℕ) (b : ℕ) (w : List ℕ) (i : ℕ) → starts kw (b ∷ w) ≡ false → first-in kw (b ∷ w) i ≡ first-in kw w (i + 1)
 unfolding contains before
 first-step kw b w i e = rw e (go (contains kw w))
   where
-    go : (c : Bool) → pick c (Here (i + suc (before kw w))) Nowhere ≡ pick c (Here (i + 1 + before kw w)) Nowhere
-    go true = ap Here (let z : i + suc (before kw w) ≡ i + 1 + before kw w = omega arith in z)
+    go : (c : Bool) → pick c (at (i + suc (before kw w))) nowhere ≡ pick c (at (i + 1 + before kw w)) nowhere
+    go true = ap at (let z : i + suc (before kw w) ≡ i + 1 + before kw w = omega arith in z)
     go false = refl
 
 -- bytes that a word does not begin with do not hold its first place
@@ -88,9 +90,9 @@ pub first-within : (kw w : List ℕ) (t : Bool) → t ≡ starts kw w → t ≡ 
 first-within kw w t e f = let (k, l) = some-byte kw w (sym e ∙ f) in let z = ap length l in omega arith
 
 -- The loop of find. The invariant: the first place from i on is the first place W.
-module _ (kw s : List ℕ) (i : ℕ) (W : Found) (inv : first-place kw s i ≡ W) where
-  pub find-end : length s ≤ i → Nowhere ≡ W
-  unfolding first-place contains
+module _ (kw s : List ℕ) (i : ℕ) (W : Place) (inv : first-place kw s i ≡ W) where
+  pub find-end : length s ≤ i → found Nowhere ≡ W
+  unfolding found first-place contains
   find-end h = rw (drop-end s i h) at inv
 
   module _ (h : i < length s) where
@@ -98,8 +100,8 @@ module _ (kw s : List ℕ) (i : ℕ) (W : Found) (inv : first-place kw s i ≡ W
       front : (b : Bool) → t ≡ b → starts kw (getD s i 0 ∷ drop (i + 1) s) ≡ b
       front b f = ap (starts kw) (sym (drop-at s i h)) ∙ sym e ∙ f
 
-      pub find-here : t ≡ true → Here i ≡ W
-      unfolding first-place contains before
+      pub find-here : t ≡ true → found (Here i) ≡ W
+      unfolding found first-place contains before
       find-here f = (rw add-zero) ∙ (rw (drop-at s i h, front true f) at inv)
 
       pub find-not : t ≡ false → first-place kw s (i + 1) ≡ W
@@ -107,8 +109,8 @@ module _ (kw s : List ℕ) (i : ℕ) (W : Found) (inv : first-place kw s i ≡ W
       find-not f = sym (first-step kw (getD s i 0) (drop (i + 1) s) i (front false f)) ∙ (rw (drop-at s i h) at inv)
 
 -- The loop of find_byte, where the word is one byte.
-module _ (q : ℕ) (s : List ℕ) (i : ℕ) (W : Found) (inv : first-place (q ∷ []) s i ≡ W) (h : i < length s) where
-  pub byte-here : getD s i 0 ≡ q → Here i ≡ W
+module _ (q : ℕ) (s : List ℕ) (i : ℕ) (W : Place) (inv : first-place (q ∷ []) s i ≡ W) (h : i < length s) where
+  pub byte-here : getD s i 0 ≡ q → found (Here i) ≡ W
   byte-here e = find-here (q ∷ []) s i W inv h true (unfold starts in rw (drop-at s i h, eq-eqb (getD s i 0) q e)) refl
 
   pub byte-not : (getD s i 0 ≡ q → ⊥) → first-place (q ∷ []) s (i + 1) ≡ W
@@ -125,29 +127,29 @@ starts-first kw (b ∷ w) c = go (starts kw (b ∷ w)) refl c (starts-first kw w
     go false e c ih = ih c
 
 -- What find answered: r.
-module _ (kw s : List ℕ) (at : ℕ) (r : Found) (a : r ≡ first-place kw s at) where
-  pub was-nowhere : r ≡ Nowhere → contains kw (drop at s) ≡ false
-  unfolding first-place
-  was-nowhere b = go (contains kw (drop at s)) (sym b ∙ a)
+module _ (kw s : List ℕ) (from : ℕ) (r : Found) (a : found r ≡ first-place kw s from) where
+  pub was-nowhere : r ≡ Nowhere → contains kw (drop from s) ≡ false
+  unfolding found first-place
+  was-nowhere b = go (contains kw (drop from s)) (ap found (sym b) ∙ a)
     where
-      go : (t : Bool) → Nowhere ≡ pick t (Here (at + before kw (drop at s))) Nowhere → t ≡ false
+      go : (t : Bool) → nowhere ≡ pick t (at (from + before kw (drop from s))) nowhere → t ≡ false
       go true e = let z : _≡_ {A = ℕ} 0 1 = cc in absurd (omega arith)
       go false e = refl
 
   module _ (j : ℕ) (b : r ≡ Here j) where
-    pub was-here : (contains kw (drop at s) ≡ true) × (j ≡ at + before kw (drop at s))
-    unfolding first-place
-    was-here = go (contains kw (drop at s)) (sym b ∙ a)
+    pub was-here : (contains kw (drop from s) ≡ true) × (j ≡ from + before kw (drop from s))
+    unfolding found first-place
+    was-here = go (contains kw (drop from s)) (ap found (sym b) ∙ a)
       where
-        go : (t : Bool) → Here j ≡ pick t (Here (at + before kw (drop at s))) Nowhere → (t ≡ true) × (j ≡ at + before kw (drop at s))
+        go : (t : Bool) → at j ≡ pick t (at (from + before kw (drop from s))) nowhere → (t ≡ true) × (j ≡ from + before kw (drop from s))
         go true e = (refl, cc)
         go false e = let z : _≡_ {A = ℕ} 0 1 = cc in absurd (omega arith)
 
-    -- the word lies within the text, at `at` or further on
-    lies : (at ≤ j) × (j + length kw ≤ length s)
-    lies = let (c, e) = was-here in (omega arith, omega (arith, length-drop at s, contains-some kw (drop at s) c, before-within kw (drop at s) c))
+    -- the word lies within the text, at `from` or further on
+    lies : (from ≤ j) × (j + length kw ≤ length s)
+    lies = let (c, e) = was-here in (omega arith, omega (arith, length-drop from s, contains-some kw (drop from s) c, before-within kw (drop from s) c))
 
-    pub here-onward : at ≤ j
+    pub here-onward : from ≤ j
     here-onward = lies .0
 
     pub here-within : j ≤ length s
@@ -157,36 +159,36 @@ module _ (kw s : List ℕ) (at : ℕ) (r : Found) (a : r ≡ first-place kw s at
     here-fits n l h = omega (arith, lies)
 
 -- What find_byte answered of the rest of a text: r.
-module _ (kw s : List ℕ) (at : ℕ) (r : Found) (a : r ≡ first-place kw (take (length s - at) (drop at s)) 0) where
-  in-rest : r ≡ pick (contains kw (drop at s)) (Here (0 + before kw (drop at s))) Nowhere
+module _ (kw s : List ℕ) (from : ℕ) (r : Found) (a : found r ≡ first-place kw (take (length s - from) (drop from s)) 0) where
+  in-rest : found r ≡ pick (contains kw (drop from s)) (at (0 + before kw (drop from s))) nowhere
   unfolding first-place
   in-rest = a ∙ (rw take-rest)
 
-  pub rest-nowhere : r ≡ Nowhere → Nowhere ≡ first-place kw s at
-  unfolding first-place
-  rest-nowhere b = rw (was-nowhere kw (drop at s) 0 r (unfold first-place in in-rest) b)
+  pub rest-nowhere : r ≡ Nowhere → found Nowhere ≡ first-place kw s from
+  unfolding found first-place
+  rest-nowhere b = rw (was-nowhere kw (drop from s) 0 r (unfold first-place in in-rest) b)
 
-  pub rest-here : (j : ℕ) → r ≡ Here j → Here (at + j) ≡ first-place kw s at
-  unfolding first-place
-  rest-here j b = let (c, e) = was-here kw (drop at s) 0 r (unfold first-place in in-rest) j b in ap Here (let z : at + j ≡ at + before kw (drop at s) = omega arith in z) ∙ (rw c)
+  pub rest-here : (j : ℕ) → r ≡ Here j → found (Here (from + j)) ≡ first-place kw s from
+  unfolding found first-place
+  rest-here j b = let (c, e) = was-here kw (drop from s) 0 r (unfold first-place in in-rest) j b in ap at (let z : from + j ≡ from + before kw (drop from s) = omega arith in z) ∙ (rw c)
 
-  pub rest-fits : (j : ℕ) → r ≡ Here j → length s < 2 ^ 64 → at < length s → Fits w64 (at + j)
-  rest-fits j b h k = omega (arith, here-within kw (drop at s) 0 r (unfold first-place in in-rest) j b, length-drop at s)
+  pub rest-fits : (j : ℕ) → r ≡ Here j → length s < 2 ^ 64 → from < length s → Fits w64 (from + j)
+  rest-fits j b h k = omega (arith, here-within kw (drop from s) 0 r (unfold first-place in in-rest) j b, length-drop from s)
 
-pub rest-past : (a : ℕ) (kw s : List ℕ) (at : ℕ) → length s ≤ at → Nowhere ≡ first-place (a ∷ kw) s at
-unfolding first-place contains
-rest-past a kw s at h = rw (drop-end s at h)
+pub rest-past : (a : ℕ) (kw s : List ℕ) (from : ℕ) → length s ≤ from → found Nowhere ≡ first-place (a ∷ kw) s from
+unfolding found first-place contains
+rest-past a kw s from h = rw (drop-end s from h)
 
 -- The word does not stand at i, as t says, and r is where its first byte stands next.
-module _ (kw s : List ℕ) (i : ℕ) (W : Found) (inv : first-place kw s i ≡ W) (h : i < length s) (t : Bool) (e : t ≡ starts kw (drop i s)) (f : t ≡ false) (a : ℕ) (g : a ≡ getD kw 0 0) (r : Found) (b : r ≡ first-place (a ∷ []) s (i + 1)) where
+module _ (kw s : List ℕ) (i : ℕ) (W : Place) (inv : first-place kw s i ≡ W) (h : i < length s) (t : Bool) (e : t ≡ starts kw (drop i s)) (f : t ≡ false) (a : ℕ) (g : a ≡ getD kw 0 0) (r : Found) (b : found r ≡ first-place (a ∷ []) s (i + 1)) where
   on : first-place kw s (i + 1) ≡ W
   on = find-not kw s i W inv h t e f
 
   spelled : (k : List ℕ) × (kw ≡ a ∷ k)
   spelled = let (k, l) = some-byte kw (drop i s) (sym e ∙ f) in (k, l ∙ ap (λ (x : ℕ). x ∷ k) (sym g))
 
-  pub find-none : r ≡ Nowhere → Nowhere ≡ W
-  unfolding first-place
+  pub find-none : r ≡ Nowhere → found Nowhere ≡ W
+  unfolding found first-place
   find-none d = let (k, l) = spelled in rw (l, byte-nowhere a k (drop (i + 1) s) (was-nowhere (a ∷ []) s (i + 1) r b d)) at on
 
   pub find-next : (j : ℕ) → r ≡ Here j → first-place kw s j ≡ W
@@ -196,11 +198,11 @@ module _ (kw s : List ℕ) (i : ℕ) (W : Found) (inv : first-place kw s i ≡ W
       ap (λ (x : List ℕ). first-place x s j) l ∙ ap (first-place (a ∷ k) s) (m ∙ ap (λ (x : ℕ). i + 1 + x) (byte-first a (drop (i + 1) s)))
       ∙ sym (first-far a k s (i + 1)) ∙ ap (λ (x : List ℕ). first-place x s (i + 1)) (sym l) ∙ on
 
-pub next-less : (a : ℕ) (s : List ℕ) (i j : ℕ) (r : Found) → i < length s → r ≡ first-place (a ∷ []) s (i + 1) → r ≡ Here j → length s - j < length s - i
+pub next-less : (a : ℕ) (s : List ℕ) (i j : ℕ) (r : Found) → i < length s → found r ≡ first-place (a ∷ []) s (i + 1) → r ≡ Here j → length s - j < length s - i
 next-less a s i j r h b d = omega (arith, here-onward (a ∷ []) s (i + 1) r b j d)
 
 -- whether a word stands anywhere
-module _ (kw w : List ℕ) (r : Found) (a : r ≡ first-place kw w 0) where
+module _ (kw w : List ℕ) (r : Found) (a : found r ≡ first-place kw w 0) where
   pub has-yes : (j : ℕ) → r ≡ Here j → true ≡ contains kw w
   has-yes j b = sym (was-here kw w 0 r a j b .0)
 

@@ -19,7 +19,7 @@ use Rattle.spec.proofs.Base.Outside.{later-zero, later-later, later-suc, outsid
 use Rattle.spec.proofs.Base.Places.{drop-at, drop-end}
 use Rattle.spec.proofs.Base.Tests.{or-false-left, or-false-right}
 use Rattle.search.specs.FirstPlace.{first-place}
-use Rattle.search.specs.Places.{placed, place-from, either, stop}
+use Rattle.search.specs.Places.{found, place-from, either, stop}
 use Rattle.search.specs.Runs.{away}
 use Rattle.search.specs.declared.places.Found.{Found}
 use Rattle.search.specs.declared.places.Found.the-variants.{Here, Nowhere}
@@ -56,9 +56,9 @@ quoted p (suc q) (b ∷ w) n = go (eqb b (suc q)) (contains (suc q ∷ []) w) (q
     go false false ih = ap (later 1) ih
 
 -- The loop of outside_quotes. The invariant: what is found from i on is what is found, W.
-module _ (sign other : ℕ) (s : List ℕ) (i : ℕ) (W : Found) (inv : place-from (outside (either sign other) 0) s i ≡ W) where
-  pub outside-over : length s ≤ i → Nowhere ≡ W
-  unfolding place-from outside
+module _ (sign other : ℕ) (s : List ℕ) (i : ℕ) (W : Place) (inv : place-from (outside (either sign other) 0) s i ≡ W) where
+  pub outside-over : length s ≤ i → found Nowhere ≡ W
+  unfolding found place-from outside
   outside-over h = rw (drop-end s i h) at inv
 
   -- r is the next stop
@@ -72,27 +72,29 @@ module _ (sign other : ℕ) (s : List ℕ) (i : ℕ) (W : Found) (inv : place-fr
     to-stop : place-from (outside (either sign other) 0) s r ≡ W
     to-stop = ap (place-from (outside (either sign other) 0) s) a ∙ from-onward (outside (either sign other) 0) s i (away (stop sign other) (drop i s)) (passed (outside (either sign other) 0) (stop sign other) plain (drop i s)) ∙ inv
 
-    pub outside-none : length s ≤ r → Nowhere ≡ W
-    unfolding place-from outside
+    pub outside-none : length s ≤ r → found Nowhere ≡ W
+    unfolding found place-from outside
     outside-none h = rw (drop-end s r h) at to-stop
 
     module _ (h : r < length s) where
-      pub outside-here : eqb (getD s r 0) sign || eqb (getD s r 0) other ≡ true → Here r ≡ W
-      unfolding place-from outside
+      pub outside-here : eqb (getD s r 0) sign || eqb (getD s r 0) other ≡ true → found (Here r) ≡ W
+      unfolding found place-from outside
       outside-here e = (rw add-zero) ∙ (rw (drop-at s r h, or-false, e) at to-stop)
 
       -- neither sign is there: a quote mark, which is looked for again
-      module _ (n : eqb (getD s r 0) sign || eqb (getD s r 0) other ≡ false) (q : Found) (b : q ≡ first-place (getD s r 0 ∷ []) s (r + 1)) where
+      module _ (n : eqb (getD s r 0) sign || eqb (getD s r 0) other ≡ false) (q : Found) (b : found q ≡ first-place (getD s r 0 ∷ []) s (r + 1)) where
         mark : one-of "\"'" (getD s r 0) ≡ true
         mark = unfold stop in rw (or-false, n) at (stopped (stop sign other) s i r a h)
 
-        in-quotes : placed (later (r + 1) (after-quote (either sign other) (getD s r 0) (drop (r + 1) s))) ≡ W
+        in-quotes : later (r + 1) (after-quote (either sign other) (getD s r 0) (drop (r + 1) s)) ≡ W
         unfolding place-from outside
         in-quotes =
-            ap placed (ap (later (r + 1)) (sym (quoted (either sign other) (getD s r 0) (drop (r + 1) s) (λ z. true≢false (sym (rw z at mark))))) ∙ sym (later-later r 1 (outside (either sign other) (getD s r 0) (drop (r + 1) s))))
+            ap (later (r + 1)) (sym (quoted (either sign other) (getD s r 0) (drop (r + 1) s) (λ z. true≢false (sym (rw z at mark)))))
+            ∙ sym (later-later r 1 (outside (either sign other) (getD s r 0) (drop (r + 1) s)))
             ∙ (rw (drop-at s r h, or-false, n, mark) at to-stop)
 
-        pub outside-open : q ≡ Nowhere → Nowhere ≡ W
+        pub outside-open : q ≡ Nowhere → found Nowhere ≡ W
+        unfolding found
         outside-open e = rw (was-nowhere (getD s r 0 ∷ []) s (r + 1) q b e) at in-quotes
 
         pub outside-quoted : (j : ℕ) → q ≡ Here j → place-from (outside (either sign other) 0) s (j + 1) ≡ W
@@ -103,11 +105,11 @@ module _ (sign other : ℕ) (s : List ℕ) (i : ℕ) (W : Found) (inv : place-fr
             ap (place-from (outside (either sign other) 0) s) z ∙ from-far (outside (either sign other) 0) s (r + 1) k ∙ (rw c at in-quotes)
 
 -- a quoted part ends further on
-pub quoted-less : (p : ℕ → Bool) (kw s : List ℕ) (i r : ℕ) (q : Found) (j : ℕ) → i < length s → r ≡ i + away p (drop i s) → q ≡ first-place kw s (r + 1) → q ≡ Here j → length s - (j + 1) < length s - i
+pub quoted-less : (p : ℕ → Bool) (kw s : List ℕ) (i r : ℕ) (q : Found) (j : ℕ) → i < length s → r ≡ i + away p (drop i s) → found q ≡ first-place kw s (r + 1) → q ≡ Here j → length s - (j + 1) < length s - i
 quoted-less p kw s i r q j h a b f = omega (arith, here-onward kw s (r + 1) q b j f)
 
 -- the byte that outside_quotes found is one of the text, and of the class
-module _ (p : ℕ → Bool) (s : List ℕ) (i : ℕ) (r : Found) (a : r ≡ place-from (outside p 0) s i) (j : ℕ) (e : r ≡ Here j) where
+module _ (p : ℕ → Bool) (s : List ℕ) (i : ℕ) (r : Found) (a : found r ≡ place-from (outside p 0) s i) (j : ℕ) (e : r ≡ Here j) where
   pub sign-in : j < length s
   sign-in = let (n, f, g) = from-here (outside p 0) s i r a j e in omega (arith, outside-within p 0 (drop i s) n f, length-drop i s)
 

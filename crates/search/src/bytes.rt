@@ -4,6 +4,7 @@ ghost use mathlib.Core.Path.{_≡_};
 ghost use mathlib.Core.List.{[], _∷_};
 ghost use Rattle.search.specs.Runs.{Skipped, Block};
 ghost use Rattle.search.specs.FirstPlace.{first-place, only};
+ghost use Rattle.search.specs.Places.{found};
 
 // Few enough bytes that a literal has some blocks without its quote mark, and enough for vector code.
 pub const BLOCK: usize = 16;
@@ -41,7 +42,7 @@ fn past_blocks(s: &[u8], at: usize, b: u8) -> usize
 
 // The first place of b from `at` on: in the first block that has it, or in what is left after the last block.
 pub fn find_byte(s: &[u8], at: usize, b: u8) -> Found
-    ensures { λ r. ⌜ r ≡ first-place (b ∷ []) (now (s .entry)) at ⌝ }
+    ensures { λ r. ⌜ found r ≡ first-place (b ∷ []) (now (s .entry)) at ⌝ }
 {
     let mut i = past_blocks(s, at, b);
     while i < s.len() {
@@ -56,7 +57,7 @@ pub fn find_byte(s: &[u8], at: usize, b: u8) -> Found
 // The same, with the rest handed over as a part: whoever hands on its own text first copies its place and length, which the processor
 // waits for.
 pub fn find_in_rest(s: &[u8], at: usize, b: u8) -> Found
-    ensures { λ r. ⌜ r ≡ first-place (b ∷ []) (now (s .entry)) at ⌝ }
+    ensures { λ r. ⌜ found r ≡ first-place (b ∷ []) (now (s .entry)) at ⌝ }
 {
     if s.len() <= at {
         return Found::Nowhere;

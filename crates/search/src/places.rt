@@ -5,6 +5,7 @@ ghost use mathlib.Core.Path.{_≡_};
 ghost use mathlib.Core.List.{[], _∷_};
 ghost use Rattle.spec.specs.Reading.Readers.{contains};
 ghost use Rattle.search.specs.FirstPlace.{first-place};
+ghost use Rattle.search.specs.Places.{found};
 
 // The place where a word first stands, or that it stands nowhere.
 pub enum Found {
@@ -15,7 +16,7 @@ pub enum Found {
 // The first place of kw from `at` on: the word is compared only where its first byte stands. (The empty word stands everywhere, so
 // one that does not stand here has a first byte.)
 pub fn find(s: &[u8], at: usize, kw: &[u8]) -> Found
-    ensures { λ r. ⌜ r ≡ first-place (now (kw .entry)) (now (s .entry)) at ⌝ }
+    ensures { λ r. ⌜ found r ≡ first-place (now (kw .entry)) (now (s .entry)) at ⌝ }
 {
     let mut i = at;
     while i < s.len() {

@@ -8,7 +8,7 @@ ghost use Prim.Native.Nat.{_+_};
 ghost use lib.ListN.{drop};
 ghost use Rattle.spec.specs.Reading.Places.{outside};
 ghost use Rattle.search.specs.Runs.{away, Skipped, Block};
-ghost use Rattle.search.specs.Places.{either, stop, place-from};
+ghost use Rattle.search.specs.Places.{found, place-from, either, stop};
 
 // A quote mark, or one of the two signs.
 fn is_stop(b: u8, sign: u8, other: u8) -> bool
@@ -55,7 +55,7 @@ fn plain_end(s: &[u8], at: usize, sign: u8, other: u8) -> usize
 // The first of the two signs from `at` on, outside quotes: a quoted part goes to the next mark of its kind, and one without end
 // leaves nothing to find.
 pub fn outside_quotes(s: &[u8], at: usize, sign: u8, other: u8) -> Found
-    ensures { λ r. ⌜ r ≡ place-from (outside (either sign other) 0) (now (s .entry)) at ⌝ }
+    ensures { λ r. ⌜ found r ≡ place-from (outside (either sign other) 0) (now (s .entry)) at ⌝ }
 {
     let mut i = at;
     while i < s.len() {

@@ -25,31 +25,36 @@ use Rattle.utf8.proofs.Points.{code-at, none-at, point-fits, point-less
 
 -- the code's four forms, by the tests in order; t, u and v are what the tests say
 module _ (a b c d : ℕ) where
-  pub one-is : a < 0x80 → Is a 1 ≡ seen (decode4 a b c d)
-  one-is h = ap seen (sym (decode4-1 a b c d h))
+  pub one-is : a < 0x80 → seen (Is a 1) ≡ decode4 a b c d
+  unfolding seen
+  one-is h = sym (decode4-1 a b c d h)
 
 module _ (a b c d : ℕ) (h : 0x80 ≤ a) (t : Bool) (et : t ≡ two a b) where
-  pub two-is : t ≡ true → Is (a % 32 * 64 + b % 64) 2 ≡ seen (decode4 a b c d)
-  two-is e = ap seen (sym (decode4-2 a b c d h (sym et ∙ e)))
+  pub two-is : t ≡ true → seen (Is (a % 32 * 64 + b % 64) 2) ≡ decode4 a b c d
+  unfolding seen
+  two-is e = sym (decode4-2 a b c d h (sym et ∙ e))
 
   module _ (e : t ≡ false) (u : Bool) (eu : u ≡ three a b c) where
-    pub three-is : u ≡ true → (p : ℕ) → p ≡ a % 16 * 4096 + b % 64 * 64 + c % 64 → Is p 3 ≡ seen (decode4 a b c d)
-    three-is f p g = rw g (ap seen (sym (decode4-3 a b c d h (sym et ∙ e) (sym eu ∙ f))))
+    pub three-is : u ≡ true → (p : ℕ) → p ≡ a % 16 * 4096 + b % 64 * 64 + c % 64 → seen (Is p 3) ≡ decode4 a b c d
+    unfolding seen
+    three-is f p g = rw g (sym (decode4-3 a b c d h (sym et ∙ e) (sym eu ∙ f)))
 
     module _ (f : u ≡ false) (v : Bool) (ev : v ≡ four a b c d) where
-      pub four-is : v ≡ true → (p : ℕ) → p ≡ a % 8 * 262144 + b % 64 * 4096 + c % 64 * 64 + d % 64 → Is p 4 ≡ seen (decode4 a b c d)
-      four-is g p k = rw k (ap seen (sym (decode4-4 a b c d h (sym et ∙ e) (sym eu ∙ f) (sym ev ∙ g))))
+      pub four-is : v ≡ true → (p : ℕ) → p ≡ a % 8 * 262144 + b % 64 * 4096 + c % 64 * 64 + d % 64 → seen (Is p 4) ≡ decode4 a b c d
+      unfolding seen
+      four-is g p k = rw k (sym (decode4-4 a b c d h (sym et ∙ e) (sym eu ∙ f) (sym ev ∙ g)))
 
-      pub none-is : v ≡ false → Not ≡ seen (decode4 a b c d)
-      none-is g = ap seen (sym (decode4-no a b c d h (sym et ∙ e) (sym eu ∙ f) (sym ev ∙ g)))
+      pub none-is : v ≡ false → seen Not ≡ decode4 a b c d
+      unfolding seen
+      none-is g = sym (decode4-no a b c d h (sym et ∙ e) (sym eu ∙ f) (sym ev ∙ g))
 
 -- at a place
-pub code-none : (s : List ℕ) (at : ℕ) → length s ≤ at → Not ≡ seen (decode1 (drop at s))
-unfolding decode1
+pub code-none : (s : List ℕ) (at : ℕ) → length s ≤ at → seen Not ≡ decode1 (drop at s)
+unfolding seen decode1
 code-none s at h = rw (drop-end s at h)
 
 pub code-is : (s : List ℕ) (at b c d : ℕ) (r : Point) → at < length s → b ≡ getD s (at + 1) 0 → c ≡ getD s (at + 2) 0 → d ≡ getD s (at + 3) 0
-    → r ≡ seen (decode4 (getD s at 0) b c d) → r ≡ seen (decode1 (drop at s))
+    → seen r ≡ decode4 (getD s at 0) b c d → seen r ≡ decode1 (drop at s)
 unfolding decode1
 code-is s at b c d r h eb ec ed e =
     let n1 : at + 1 + 0 ≡ at + 1 = omega arith in
@@ -57,21 +62,21 @@ code-is s at b c d r h eb ec ed e =
     let n3 : at + 1 + 2 ≡ at + 3 = omega arith in
     e ∙ (rw (drop-at s at h, getD-drop (at + 1) s 0 0, getD-drop (at + 1) s 1 0, getD-drop (at + 1) s 2 0, n1, n2, n3, ← eb, ← ec, ← ed))
 
-pub code-one : (s : List ℕ) (at : ℕ) → at < length s → getD s at 0 < 0x80 → Is (getD s at 0) 1 ≡ seen (decode1 (drop at s))
+pub code-one : (s : List ℕ) (at : ℕ) → at < length s → getD s at 0 < 0x80 → seen (Is (getD s at 0) 1) ≡ decode1 (drop at s)
 code-one s at h k = code-is s at _ _ _ (Is (getD s at 0) 1) h refl refl refl (one-is (getD s at 0) _ _ _ k)
 
 -- at the front of a text, and of the rest of one
 module _ (t : List ℕ) (h : length t ≡ 0 → ⊥) where
-  pub first-one : getD t 0 0 < 0x80 → Is (getD t 0 0) 1 ≡ seen (decode1 t)
+  pub first-one : getD t 0 0 < 0x80 → seen (Is (getD t 0 0) 1) ≡ decode1 t
   first-one k = code-one t 0 (omega arith) k
 
-  pub first-is : (b c d : ℕ) (r : Point) → b ≡ getD t 1 0 → c ≡ getD t 2 0 → d ≡ getD t 3 0 → r ≡ seen (decode4 (getD t 0 0) b c d) → r ≡ seen (decode1 t)
+  pub first-is : (b c d : ℕ) (r : Point) → b ≡ getD t 1 0 → c ≡ getD t 2 0 → d ≡ getD t 3 0 → seen r ≡ decode4 (getD t 0 0) b c d → seen r ≡ decode1 t
   first-is b c d r e f g a = code-is t 0 b c d r (omega arith) e f g a
 
-pub first-none : (t : List ℕ) → length t ≡ 0 → Not ≡ seen (decode1 t)
+pub first-none : (t : List ℕ) → length t ≡ 0 → seen Not ≡ decode1 t
 first-none t e = code-none t 0 (omega arith)
 
-pub code-rest : (s : List ℕ) (at : ℕ) (r : Point) → r ≡ seen (decode1 (take (length s - at) (drop at s))) → r ≡ seen (decode1 (drop at s))
+pub code-rest : (s : List ℕ) (at : ℕ) (r : Point) → seen r ≡ decode1 (take (length s - at) (drop at s)) → seen r ≡ decode1 (drop at s)
 code-rest s at r a = a ∙ (rw (take-rest s at))
 
 -- a text from its front: a code point decides as little as its absence decides all
@@ -94,7 +99,7 @@ module _ (s : List ℕ) (i : ℕ) (inv : i + stop-of (utf8 (drop i s)) ≡ stop-
   pub end-all : length s ≤ i → i ≡ stop-of (utf8 s)
   end-all h = rw (drop-end s i h, utf8-end, add-zero) at inv
 
-  module _ (p : Point) (a : p ≡ seen (decode1 (drop i s))) where
+  module _ (p : Point) (a : seen p ≡ decode1 (drop i s)) where
     pub end-none : i < length s → p ≡ Not → i ≡ stop-of (utf8 s)
     end-none h b =
         let d : decode1 (getD s i 0 ∷ drop (i + 1) s) ≡ _ = ap decode1 (sym (drop-at s i h)) ∙ none-at s i p a b in

@@ -1,6 +1,6 @@
 -- Laws of a code point at a place, for callers: what the code's answer says, and whether a character of a class begins there. Assumes
 -- nothing.
-use mathlib.Core.Path.{_≡_, sym, _∙_}
+use mathlib.Core.Path.{_≡_, sym, ap, _∙_}
 use mathlib.Core.Bool.{Bool, false}
 use mathlib.Core.List.{List}
 use Prim.Native.Nat.{ℕ, _+_, _-_, _^_, _<_, _≤_}
@@ -8,7 +8,6 @@ use native.Mathlib.Omega.{arith}
 use mir.Syntax.{w64}
 use mir.Val.{Fits}
 use lib.ListN.{length, drop, length-drop}
-use Rattle.spec.specs.Reading.Utf8 as Utf8
 use Rattle.spec.specs.Reading.Utf8.{point, no-point, decode1}
 use Rattle.spec.specs.Reading.Readers.{begins}
 use Rattle.spec.proofs.Characters.Utf8.{point-size}
@@ -16,13 +15,10 @@ use Rattle.utf8.specs.Seen.{seen}
 use Rattle.utf8.specs.declared.Point.{Point}
 use Rattle.utf8.specs.declared.Point.the-variants.{Is, Not}
 
-module _ (s : List ℕ) (i c k : ℕ) (p : Point) (a : p ≡ seen (decode1 (drop i s))) (b : p ≡ Is c k) where
+module _ (s : List ℕ) (i c k : ℕ) (p : Point) (a : seen p ≡ decode1 (drop i s)) (b : p ≡ Is c k) where
   pub code-at : decode1 (drop i s) ≡ point c k
-  code-at = go (decode1 (drop i s)) (sym b ∙ a)
-    where
-      go : (x : Utf8.Point) → Is c k ≡ seen x → x ≡ point c k
-      go (point d j) e = cc
-      go no-point e = let z : _≡_ {A = ℕ} 0 1 = cc in absurd (omega arith)
+  unfolding seen
+  code-at = sym a ∙ ap seen b
 
   -- its bytes, one or more, stand in the text
   pub point-in : (1 ≤ k) × (k ≤ length s - i)
@@ -42,13 +38,10 @@ module _ (s : List ℕ) (i c k : ℕ) (p : Point) (a : p ≡ seen (decode1 (drop
   unfolding begins
   begins-point P t e = rw code-at e
 
-module _ (s : List ℕ) (i : ℕ) (p : Point) (a : p ≡ seen (decode1 (drop i s))) (b : p ≡ Not) where
+module _ (s : List ℕ) (i : ℕ) (p : Point) (a : seen p ≡ decode1 (drop i s)) (b : p ≡ Not) where
   pub none-at : decode1 (drop i s) ≡ no-point
-  none-at = go (decode1 (drop i s)) (sym b ∙ a)
-    where
-      go : (x : Utf8.Point) → Not ≡ seen x → x ≡ no-point
-      go (point d j) e = let z : _≡_ {A = ℕ} 0 1 = cc in absurd (omega arith)
-      go no-point e = cc
+  unfolding seen
+  none-at = sym a ∙ ap seen b
 
   pub begins-none : (P : ℕ → Bool) → false ≡ begins P (drop i s)
   unfolding begins

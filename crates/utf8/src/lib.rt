@@ -79,7 +79,7 @@ fn join_4(a: u8, b: u8, c: u8, d: u8) -> u32
 
 // RFC 3629, section 4: the alternatives in order.
 fn decode(a: u8, b: u8, c: u8, d: u8) -> Point
-    ensures { λ r. ⌜ r ≡ seen (decode4 a b c d) ⌝ }
+    ensures { λ r. ⌜ seen r ≡ decode4 a b c d ⌝ }
 {
     if a < 0x80 {
         return Point::Is(a as u32, 1);
@@ -98,7 +98,7 @@ fn decode(a: u8, b: u8, c: u8, d: u8) -> Point
 
 // The code point at the front of a text, and its width.
 fn first_point(t: &[u8]) -> Point
-    ensures { λ r. ⌜ r ≡ seen (decode1 (now (t .entry))) ⌝ }
+    ensures { λ r. ⌜ seen r ≡ decode1 (now (t .entry)) ⌝ }
 {
     if t.len() == 0 {
         return Point::Not;
@@ -114,7 +114,7 @@ fn first_point(t: &[u8]) -> Point
 // The code point that stands at a place, and its width. The rest is handed over as a part: whoever hands on its own text first copies its
 // place and length, which the processor waits for.
 pub fn code_point(s: &[u8], at: usize) -> Point
-    ensures { λ r. ⌜ r ≡ seen (decode1 (drop at (now (s .entry)))) ⌝ }
+    ensures { λ r. ⌜ seen r ≡ decode1 (drop at (now (s .entry))) ⌝ }
 {
     if s.len() <= at {
         return Point::Not;

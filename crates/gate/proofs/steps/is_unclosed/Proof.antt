@@ -1,11 +1,12 @@
 -- `gate::steps::is_unclosed` meets its contract. Assumes nothing.
 use borrow.Author.Needs.{needs}
+use Rattle.scan.specs.Answers.{scan-gives}
 use Rattle.gate.specs.Promises.{unclosed}
 use Rattle.gate.proofs.steps.is_unclosed.Statement.{statement}
 use Rattle.gate.proofs.steps.is_unclosed.Tie as tie
 
 pub is-unclosed-spec : {M : Type 1} → statement M
-unfolding unclosed
+unfolding scan-gives unclosed
 is-unclosed-spec =
     tie.close
     (tie.spec

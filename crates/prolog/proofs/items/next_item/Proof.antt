@@ -1,15 +1,15 @@
 -- `prolog::items::next_item` meets its contract. The invariant: what is next from i on is what is next. Assumes nothing.
 use mathlib.Core.Path.{_≡_}
 use Prim.Native.Nat.{_-_}
-use lib.ListN.{length, drop}
+use lib.ListN.{length}
 use Rattle.spec.specs.Reading.Prolog.{next-item}
-use Rattle.prolog.specs.Answers.{placed-item}
+use Rattle.prolog.specs.Answers.{item-from}
 use Rattle.prolog.proofs.Turns.{nexts}
 use Rattle.prolog.proofs.items.next_item.Statement.{statement}
 use Rattle.prolog.proofs.items.next_item.Tie as tie
 
 abbrev Inv-loop : tie.InvT-loop
-Inv-loop text from i₀ i = placed-item i (next-item (drop i text)) ≡ placed-item from (next-item (drop from text))
+Inv-loop text from i₀ i = item-from next-item text i ≡ item-from next-item text from
 
 abbrev μ-loop : tie.MeasureT-loop
 μ-loop text from i₀ i = length text - i
