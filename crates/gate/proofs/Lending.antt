@@ -12,9 +12,10 @@ use types.Kit.{Given}
 use denote.RattleType.{RattleType}
 use denote.Laws.{Is, Tells, Makes}
 use denote.Builtin.{u8}
-use denote.Plain.{uint-tells, uint-makes}
+use denote.Plain.{uint-tells, uint-makes, uint-lawful}
 use denote.Signature.{plain}
 use denote.Steps.{only}
+use denote.Enum.Laws as EL
 use denote.Struct.Laws as LL
 use denote.Triple.Walked.{stay-none, Goes, goes-none}
 use denote.Exit.{yes, Last}
@@ -22,6 +23,8 @@ use Rattle.gate.specs.declared.state.Gate.{Gate}
 use Rattle.gate.specs.declared.state.Declared.{Declared}
 use Rattle.gate.proofs.state.Gate as T
 use Rattle.gate.proofs.state.Gate.Laws as T′
+use Rattle.gate.proofs.state.Reply as S
+use Rattle.gate.proofs.state.Reply.Laws as S′
 use Rattle.gate.proofs.state.Declared as D
 use Rattle.gate.proofs.state.Declared.Laws as D′
 
@@ -50,14 +53,14 @@ module _ {M : Type 1} (𝓤 : URA M) (H : Heap 𝓤) (A : Atoms 𝓤) where
   pub record Passes (P : Plain) : Type 2 where
     pub tells : Tells (P .row) (Is (P .row)) (λ x. P .val x ∷ [])
     pub makes : Makes 𝓤 H A (P .row) (Is (P .row))
-    pub typed : (x : P .row .Denot) → Is (P .row) x (P .val x ∷ []) → Holds (hasTy (P .ty) (P .val x)) × WT (P .val x)
+    pub typed : (x : P .row .Denot) (u : Val) → Is (P .row) x (u ∷ []) → Holds (hasTy (P .ty) u) × WT u
     pub last : (x : P .row .Denot) → Last (P .row .exit yes) x
     pub goes : (W : Given 𝓤 H A) → Goes 𝓤 H A W 2 (plain (λ _. P .row)) yes (stay-none (λ _. P .row) yes)
 
   -- and of the answer's
   pub record Answers (R : Plain) : Type 2 where
     pub makes : Makes 𝓤 H A (R .row) (Is (R .row))
-    pub typed : (x : R .row .Denot) → Is (R .row) x (R .val x ∷ []) → Holds (hasTy (R .ty) (R .val x)) × WT (R .val x)
+    pub typed : (x : R .row .Denot) (u : Val) → Is (R .row) x (u ∷ []) → Holds (hasTy (R .ty) u) × WT u
 
   -- and of the step's struct: its machine value holds those of its two fields
   pub record Opens (R : Plain) (D : Pair R) : Type 2 where
@@ -69,6 +72,10 @@ module _ {M : Type 1} (𝓤 : URA M) (H : Heap 𝓤) (A : Atoms 𝓤) where
 abbrev pub byte : Plain
 byte = record { row = u8; ty = tyInt w8; val = λ (n : ℕ). vint w8 n }
 
+-- a reply
+abbrev pub reply : Plain
+reply = record { row = S.the-row; ty = S′.mir; val = EL.val S.the-type S′.the-laws }
+
 -- the struct of a record and a number
 abbrev pub declared : Pair byte
 declared = record { row = D.the-row; name = D.struct .name; gate = λ (d : Declared). d .gate; answer = λ (d : Declared). d .number }
@@ -79,13 +86,16 @@ module _ {M : Type 1} (𝓤 : URA M) (H : Heap 𝓤) (A : Atoms 𝓤) (W : Given
       record {
         tells = uint-tells w8;
         makes = uint-makes 𝓤 H A W w8;
-        typed = λ x is. (tt, record { fits = is .1 });
+        typed = λ x u is. uint-lawful 𝓤 H A W w8 .typed x _ is .0;
         last = λ _. tt;
         goes = λ W. goes-none 𝓤 H A W 2 (λ _. u8) yes (λ κs x f. refl);
       }
 
   pub byte-answers : Answers 𝓤 H A byte
-  byte-answers = record { makes = uint-makes 𝓤 H A W w8; typed = λ x is. (tt, record { fits = is .1 }) }
+  byte-answers = record { makes = uint-makes 𝓤 H A W w8; typed = λ x u is. uint-lawful 𝓤 H A W w8 .typed x _ is .0 }
+
+  pub reply-answers : Answers 𝓤 H A reply
+  reply-answers = record { makes = EL.makes S.the-type S′.the-plain 𝓤 H A; typed = λ x u is. EL.lawful S.the-type S′.the-laws 𝓤 H A W tt .typed x _ is .0 }
 
   pub declared-opens : Opens 𝓤 H A byte declared
   declared-opens =

@@ -129,7 +129,7 @@ module _ (P R : Plain) (D : Pair R) where
         walk p =
             qed W ((‵ (flft κ q) ⊛ ‵ (flft κ′ q′) ⊛ ‵ ftrue) ∷ ‵ (owns (MutRef (named 0) κ T.the-row ∷ P .row ∷ ShrSlice (named 1) κ′ u8 ∷ []) x at) ∷ []) ∵ enter ! C Λ (function k) (vptr b o ∷ P .val n ∷ v ∷ []) _ $
             alloc1 ! (λ l₀. alloc1 ! (λ l₁. alloc1 ! (λ l₂. alloc1 ! (λ l₃. alloc1 ! (λ l₄. alloc1 ! (λ l₅. alloc0 ! $ params1 ! $
-            pass1 ! (init ! 8 refl (tt, tt)) $ pass1 ! (init ! 6 refl (K .passes .typed n n-is)) $ pass1 ! (init ! 4 refl (shr-slice-lawful 𝓤 H A W (named 1) κ′ u8 .typed s (v ∷ []) p .0)) $ pass0 ! $
+            pass1 ! (init ! 8 refl (tt, tt)) $ pass1 ! (init ! 6 refl (K .passes .typed n _ n-is)) $ pass1 ! (init ! 4 refl (shr-slice-lawful 𝓤 H A W (named 1) κ′ u8 .typed s (v ∷ []) p .0)) $ pass0 ! $
             -- the borrow is opened, and the record copied out
             move ! (13 ∷ []) $ fsplit ! $ fsplit3 ! $ drop ! $ move ! (15 ∷ []) $ split ! $ move ! (2 ∷ 3 ∷ 0 ∷ []) $
             opens ! tt T.the-row {h = h} b o (λ vs. spelt ! T.the-row (Is T.the-row) (shows 𝓤 H A T.the-row) vals (LL.tells T.the-type T′.the-laws) fullShare h vs b o $
@@ -146,7 +146,7 @@ module _ (P R : Plain) (D : Pair R) where
             land ! (from ! (stop !)) (init ! 8 refl (K .opens .typed d u is)) $
             rewrite ! 8 (λ (us : List Val). ‵ (fat fullShare (pair-type R D) l₄ 0 (only us))) (K .opens .opened d u is .0) refl $
             assigns ! (of-opd ! (load ! (from ! (fld ! refl (stop !))) (look-in ! 8 (sub ! 0 refl (whole !))))) (from ! (hop ! (look ! 14 refl) (stop !))) (store-raw ! 2 refl (LL.lawful T.the-type T′.the-laws 𝓤 H A W .typed (D .gate d) _ (K .opens .opened d u is .1 .0) .0)) $
-            assigns ! (of-opd ! (load ! (from ! (fld ! refl (stop !))) (look-in ! 8 (sub ! 1 refl (whole !))))) (from ! (stop !)) (init ! 16 refl (K .answers .typed (D .answer d) (K .opens .opened d u is .1 .1))) $
+            assigns ! (of-opd ! (load ! (from ! (fld ! refl (stop !))) (look-in ! 8 (sub ! 1 refl (whole !))))) (from ! (stop !)) (init ! 16 refl (K .answers .typed (D .answer d) _ (K .opens .opened d u is .1 .1))) $
             owned ! T.the-row (Is T.the-row) (LL.makes T.the-type T′.the-plain 𝓤 H A) (D .gate d) _ (K .opens .opened d u is .1 .0) $ move ! (3 ∷ 0 ∷ 4 ∷ 5 ∷ 6 ∷ []) $ closes ! tt T.the-row (D .gate d) (vals (D .gate d)) b o $
             -- [obs; the borrow; its token; the text's token; what the text owns; _5; …; _4; …; _3; …; _2; …; _1; …; _0; …]
             returns ! (look ! 15 refl) $ forget ! 5 refl $ forget ! 7 refl $ forget ! 9 refl $ forget ! 11 refl $ forget ! 13 refl $ forget ! 15 refl $

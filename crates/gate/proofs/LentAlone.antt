@@ -145,7 +145,7 @@ module _ (R : Plain) (D : Pair R) where
             land ! (from ! (stop !)) (init ! 8 refl (K .opens .typed d u is)) $
             rewrite ! 8 (λ (us : List Val). ‵ (fat fullShare (pair-type R D) l₃ 0 (only us))) (K .opens .opened d u is .0) refl $
             assigns ! (of-opd ! (load ! (from ! (fld ! refl (stop !))) (look-in ! 8 (sub ! 0 refl (whole !))))) (from ! (hop ! (look ! 12 refl) (stop !))) (store-raw ! 2 refl (LL.lawful T.the-type T′.the-laws 𝓤 H A W .typed (D .gate d) _ (K .opens .opened d u is .1 .0) .0)) $
-            assigns ! (of-opd ! (load ! (from ! (fld ! refl (stop !))) (look-in ! 8 (sub ! 1 refl (whole !))))) (from ! (stop !)) (init ! 14 refl (K .answers .typed (D .answer d) (K .opens .opened d u is .1 .1))) $
+            assigns ! (of-opd ! (load ! (from ! (fld ! refl (stop !))) (look-in ! 8 (sub ! 1 refl (whole !))))) (from ! (stop !)) (init ! 14 refl (K .answers .typed (D .answer d) _ (K .opens .opened d u is .1 .1))) $
             owned ! T.the-row (Is T.the-row) (LL.makes T.the-type T′.the-plain 𝓤 H A) (D .gate d) _ (K .opens .opened d u is .1 .0) $ move ! (3 ∷ 0 ∷ 4 ∷ 5 ∷ 6 ∷ []) $ closes ! tt T.the-row (D .gate d) (vals (D .gate d)) b o $
             -- [obs; the borrow; its token; the text's token; what the text owns; _4; …; _3; …; _2; …; _1; …; _0; …]
             returns ! (look ! 13 refl) $ forget ! 5 refl $ forget ! 7 refl $ forget ! 9 refl $ forget ! 11 refl $ forget ! 13 refl $

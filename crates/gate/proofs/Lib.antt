@@ -2,3 +2,5 @@ pub mod Stepping
 pub mod Lending
 pub mod Lent
 pub mod LentAlone
+pub mod Calling
+pub mod Passing

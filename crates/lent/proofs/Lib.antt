@@ -7,3 +7,4 @@ pub mod Cursors
 pub mod Apart
 pub mod Thin
 pub mod Moved
+pub mod Leading

@@ -62,3 +62,17 @@ pub fn doctype_name<'a>(text: &'a [u8]) -> &'a [u8]
 {
     parse_name(skip_s(new(text)))
 }
+
+// Whether the text is white space alone.
+pub fn is_blank(text: &[u8]) -> bool
+    ensures { λ r. ⌜ r ≡ leb (length (now (text .entry))) (run space (now (text .entry))) ⌝ }
+{
+    at_end(skip_s(new(text)))
+}
+
+// The first byte after the text's leading white space.
+pub fn first_byte(text: &[u8]) -> Next
+    ensures { λ r. ⌜ next r ≡ take 1 (drop (run space (now (text .entry))) (now (text .entry))) ⌝ }
+{
+    peek(skip_s(new(text)))
+}

@@ -1,10 +1,15 @@
--- `moxkeldi::gates::moxkeldi_doctype` meets its contract: the record is passed to `coded_step` by value and stored back. Assumes nothing.
+-- `moxkeldi::gates::moxkeldi_doctype` meets its contract: the record is passed on to `gate::doctype`, and the reply is made a number by `code`. Assumes nothing.
+use mathlib.Core.Path.{_≡_}
 use contract.Running.{givenOf}
-use Rattle.gate.proofs.Lending.{byte, declared, byte-passes, byte-answers, declared-opens}
-use Rattle.gate.proofs.Lent.{lends}
-use Rattle.moxkeldi.specs.Boundary.{DocksCoded}
-use Rattle.moxkeldi.proofs.gates.coded_step.Symbol as step
-use Rattle.moxkeldi.proofs.gates.coded_step.Met as step-thm
+use denote.Ref.{now}
+use Rattle.gate.specs.Promises.{Docks}
+use Rattle.gate.proofs.Lending.{byte, reply, byte-passes, byte-answers, reply-answers}
+use Rattle.gate.proofs.Passing.{made}
+use Rattle.gate.proofs.doctype.Symbol as callee
+use Rattle.gate.proofs.doctype.Met as callee-meets
+use Rattle.moxkeldi.specs.Boundary.{code-of, DocksCoded}
+use Rattle.moxkeldi.proofs.gates.code.Symbol as coding
+use Rattle.moxkeldi.proofs.gates.code.Met as coding-meets
 use Rattle.moxkeldi.proofs.gates.moxkeldi_doctype.Key as key
 use Rattle.moxkeldi.proofs.gates.moxkeldi_doctype.Statement.{statement}
 use Rattle.moxkeldi.proofs.gates.moxkeldi_doctype.Code as code
@@ -12,10 +17,8 @@ use Rattle.moxkeldi.proofs.gates.moxkeldi_doctype.Code as code
 pub moxkeldi-doctype-spec : {M : Type 1} → statement M
 unfolding code.routine
 moxkeldi-doctype-spec 𝓤 H 𝓜 𝓖 𝓡 =
-    lends byte byte declared DocksCoded 𝓤 H 𝓜 𝓖 𝓡 code.env key.name step.name step.routine (code.unfolded 𝓤 H 𝓜 𝓡) code.calls-moxkeldi·gates·coded-step
-    (record {
-      passes = byte-passes 𝓤 H (𝓖 .A) (givenOf 𝓤 H 𝓜 𝓖);
-      answers = byte-answers 𝓤 H (𝓖 .A) (givenOf 𝓤 H 𝓜 𝓖);
-      opens = declared-opens 𝓤 H (𝓖 .A) (givenOf 𝓤 H 𝓜 𝓖);
-    })
-    (step-thm.met 𝓤 H 𝓜 𝓖 𝓡)
+    made byte reply byte (λ κs a e r. Docks (now (a .0)) (a .1 .0) (now (a .1 .1 .0)) (now (e .0)) r) (λ r n. n ≡ code-of r) (λ κs a e n. DocksCoded (now (a .0)) (a .1 .0) (now (a .1 .1 .0)) (now (e .0)) n)
+    (λ κs a e r n docks code. record { reply = r; code = code; docks = docks })
+    𝓤 H 𝓜 𝓖 𝓡 code.env key.name callee.name coding.name callee.routine coding.routine (code.unfolded 𝓤 H 𝓜 𝓡) code.calls-gate·doctype code.calls-moxkeldi·gates·code
+    (byte-passes 𝓤 H (𝓖 .A) (givenOf 𝓤 H 𝓜 𝓖)) (reply-answers 𝓤 H (𝓖 .A) (givenOf 𝓤 H 𝓜 𝓖)) (byte-answers 𝓤 H (𝓖 .A) (givenOf 𝓤 H 𝓜 𝓖))
+    (callee-meets.met 𝓤 H 𝓜 𝓖 𝓡) (coding-meets.met 𝓤 H 𝓜 𝓖 𝓡)
