@@ -10,41 +10,25 @@ use borrow.Author.Tests.{eqb-false}
 use lib.Dec.{eqb, ltb}
 use Rattle.spec.specs.Basics.{within}
 use Rattle.spec.specs.Grammar.AppendixB.{in-table, base-chars, ideographs, combining, digits, extenders, start-char, part-char}
-use Rattle.spec.proofs.Characters.AppendixB.{tables-ascend}
+use Rattle.spec.specs.Grammar.Names.{AsciiNames, start-sign, part-sign}
+use Rattle.spec.proofs.Characters.AppendixB.{same-at, appendix-B-ascii, tables-ascend}
 use Rattle.spec.proofs.Base.Tests.{decide, leb-true, leb-false, eqb-true, eqb-no, within-high, and-left, and-right, or-cases}
 use Rattle.classes.specs.Classes.{dialect, letter, common-letter, ascii-start, ascii-part}
 use Rattle.classes.specs.declared.Names.{Names}
 use Rattle.classes.specs.declared.Names.the-variants.{AppendixB}
 use Rattle.classes.proofs.RangeLaws.{beyond}
 
--- two tests agree on all numbers below n
-agree : ℕ → (ℕ → Bool) → (ℕ → Bool) → Bool
-agree zero f g = true
-agree (suc n) f g = Bool·beq (f n) (g n) && agree n f g
+-- the classes of each edition have XML's ASCII part
+pub dialect-ascii : (names : Names) → AsciiNames (dialect names)
+unfolding dialect
+dialect-ascii AppendixB = appendix-B-ascii
 
-beq-eq : (a b : Bool) → Bool·beq a b ≡ true → a ≡ b
-beq-eq true true e = refl
-beq-eq true false e = sym e
-beq-eq false true e = e
-beq-eq false false e = refl
-
-agree-at : (n : ℕ) (f g : ℕ → Bool) → agree n f g ≡ true → (k : ℕ) → k < n → f k ≡ g k
-unfolding agree
-agree-at zero f g e k h = absurd (omega arith)
-agree-at (suc n) f g e k h = go (eqb k n) refl (λ l. agree-at n f g (and-right (Bool·beq (f n) (g n)) (agree n f g) e) k l)
-  where
-    go : (t : Bool) → eqb k n ≡ t → (k < n → f k ≡ g k) → f k ≡ g k
-    go true d r = rw (eqb-true k n d) (beq-eq (f n) (g n) (and-left (Bool·beq (f n) (g n)) (agree n f g) e))
-    go false d r = r (omega (arith, eqb-false k n d))
-
--- below 128, one computed test over the 128 signs for each class of each edition
+-- below 128 the quick tests are that part, by computing each over the 128 signs
 start-below : (names : Names) (c : ℕ) → c < 128 → ascii-start c ≡ dialect names .start c
-unfolding agree dialect start-char in-table
-start-below AppendixB c h = agree-at 128 ascii-start start-char refl c h
+start-below names c h = same-at ascii-start start-sign refl c h ∙ sym (dialect-ascii names .start-ascii c h)
 
 part-below : (names : Names) (c : ℕ) → c < 128 → ascii-part c ≡ dialect names .part c
-unfolding agree dialect start-char part-char in-table
-part-below AppendixB c h = agree-at 128 ascii-part part-char refl c h
+part-below names c h = same-at ascii-part part-sign refl c h ∙ sym (dialect-ascii names .part-ascii c h)
 
 -- the table has this very range
 has : List ℕ → ℕ → ℕ → Bool

@@ -14,7 +14,7 @@ use Rattle.spec.specs.Reading.Refusals.{number, bad-name, has-colon}
 use Rattle.spec.specs.Reading.Readers.{ok, err, before}
 use Rattle.spec.specs.Reading.Wellformed.{name, name-length}
 use Rattle.spec.specs.Reading.Dtd.{ncname}
-use Rattle.spec.proofs.Wellformed.LongestName.{Named, a-name, no-name, named, name-within, parts-ok}
+use Rattle.spec.proofs.Wellformed.LongestName.{name-within, name-read, name-unread, parts-ok}
 use Rattle.error.specs.Read.{said, read}
 use Rattle.error.specs.declared.Answer.the-variants.{At, No}
 use Rattle.spec.proofs.Agreement.Words.{before-within}
@@ -35,11 +35,7 @@ module _ (D : Dialect) (s p : List ℕ) (at : ℕ) (n : NamePart D (drop at s) p
   -- it is empty where the reader refuses
   module _ (z : length p ≡ 0) where
     no-part : name D (drop at s) ≡ err bad-name 0
-    no-part = go (named D (drop at s))
-      where
-        go : Named D (drop at s) → name D (drop at s) ≡ err bad-name 0
-        go (a-name k h e t) = let l : length p ≡ k = size ∙ (unfold name-length in (rw e)) in absurd (omega arith)
-        go (no-name e f) = e
+    no-part = name-unread D (drop at s) (sym size ∙ z)
 
     pub name-no : (m : ℕ) → m ≡ number bad-name → said (No m at) ≡ read (name D) s at
     unfolding read said
@@ -52,11 +48,7 @@ module _ (D : Dialect) (s p : List ℕ) (at : ℕ) (n : NamePart D (drop at s) p
   -- and else what the reader takes
   module _ (z : length p ≡ 0 → ⊥) where
     a-part : name D (drop at s) ≡ ok (length p)
-    a-part = go (named D (drop at s))
-      where
-        go : Named D (drop at s) → name D (drop at s) ≡ ok (length p)
-        go (a-name k h e t) = e ∙ ap ok (sym (size ∙ (unfold name-length in (rw e))))
-        go (no-name e f) = absurd (z (size ∙ (unfold name-length in (rw e))))
+    a-part = name-read D (drop at s) (λ y. z (size ∙ y)) ∙ ap ok (sym size)
 
     pub name-yes : said (At (at + length p)) ≡ read (name D) s at
     unfolding read said

@@ -10,6 +10,7 @@ pub use literals::parse_external_id;
 pub use literals::parse_pubid;
 pub use literals::parse_quoted;
 pub use literals::parse_spaced_literal;
+pub use space::is_space;
 pub use space::require_s;
 pub use space::skip_s;
 pub use tokens::need_name;

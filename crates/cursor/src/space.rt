@@ -10,7 +10,7 @@ ghost use Rattle.spec.specs.Reading.Dtd.{require-s};
 ghost use Rattle.error.specs.Read.{said, read};
 
 // One byte of production 3, S.
-fn is_space(b: u8) -> bool
+pub fn is_space(b: u8) -> bool
     ensures { λ r. ⌜ r ≡ space b ⌝ }
 {
     (b == 0x20) | (b == 0x9) | (b == 0xD) | (b == 0xA)

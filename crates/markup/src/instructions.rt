@@ -1,19 +1,18 @@
 // Processing instructions.
 use classes::Names;
+use cursor::is_space;
 use error::Answer;
-use names::whole_name;
+use names::parse_name;
 use search::Found;
 use search::at_keyword;
 use search::find;
 use search::find_byte;
 ghost use mathlib.Core.Path.{_≡_};
-ghost use Prim.Native.Nat.{_+_};
 ghost use lib.ListN.{drop};
-ghost use Rattle.spec.specs.Grammar.Languages.{none-of};
-ghost use Rattle.spec.specs.Reading.Readers.{run};
-ghost use Rattle.spec.specs.Reading.Dtd.{reserved, check-target, check-pi, parse-pi};
+ghost use Rattle.spec.specs.Reading.Dtd.{reserved, check-pi, parse-pi};
 ghost use Rattle.error.specs.Read.{said, read};
 ghost use Rattle.classes.specs.Classes.{dialect};
+ghost use Rattle.markup.specs.Targets.{target-ends};
 
 // The target "xml", in any case.
 fn is_reserved(t: &[u8]) -> bool
@@ -27,48 +26,37 @@ fn is_reserved(t: &[u8]) -> bool
         & ((t[2] == b'L') | (t[2] == b'l'))
 }
 
-// The first white space from `at` on: where the target ends.
-fn target_end(t: &[u8], at: usize) -> usize
-    ensures { λ r. ⌜ r ≡ at + run (none-of " \t\r\n") (drop at (now (t .entry))) ⌝ }
+// What a target ends before: white space, or the text's end.
+fn ends_target(t: &[u8], at: usize) -> bool
+    ensures { λ r. ⌜ r ≡ target-ends (drop at (now (t .entry))) ⌝ }
 {
-    let mut i = at;
-    while i < t.len() {
-        let b = t[i];
-        if (b == b' ') | (b == b'\t') | (b == b'\r') | (b == b'\n') {
-            return i;
-        }
-        i += 1;
+    if t.len() <= at {
+        return true;
     }
-    i
+    is_space(t[at])
 }
 
-// [17] PITarget, t from `at` on: check_name, reject_colon, and not the reserved name, in that order.
-fn check_target(t: &[u8], at: usize, names: Names) -> Answer
-    ensures { λ r. ⌜ said r ≡ read (check-target (dialect names)) (now (t .entry)) at ⌝ }
-{
-    let r = whole_name(t, at, names);
-    let Answer::At(_) = r else {
-        return r;
-    };
-    let c = find_byte(t, at, b':');
-    if let Found::Here(j) = c {
-        return Answer::No(error::HAS_COLON, j);
-    }
-    if is_reserved(&t[at..]) {
-        return Answer::No(error::RESERVED_TARGET, at);
-    }
-    Answer::At(at)
-}
-
-// What stands between "<?" and "?>", t from `at` on: only the target is looked at.
+// What stands between "<?" and "?>", t from `at` on, of which only [17] PITarget is looked at: check_name, reject_colon, and not the reserved
+// name, in that order. White space ends a target and is no part of a name, so the target is the name that stands here, if it ends there.
 fn check_pi(t: &[u8], at: usize, names: Names) -> Answer
     ensures { λ r. ⌜ said r ≡ read (check-pi (dialect names)) (now (t .entry)) at ⌝ }
 {
-    if t.len() < at {
+    let target = parse_name(t, at, names);
+    if target.len() == 0 {
         return Answer::No(error::BAD_NAME, at);
     }
-    let e = target_end(t, at);
-    check_target(&t[0..e], at, names)
+    let e = at + target.len();
+    if !ends_target(t, e) {
+        return Answer::No(error::BAD_NAME, e);
+    }
+    let c = find_byte(target, 0, b':');
+    if let Found::Here(j) = c {
+        return Answer::No(error::HAS_COLON, at + j);
+    }
+    if is_reserved(target) {
+        return Answer::No(error::RESERVED_TARGET, at);
+    }
+    Answer::At(at)
 }
 
 // parse_pi, [16] PI: from "<?" to the first "?>".

@@ -5,6 +5,7 @@ pub mod ContentModels
 pub mod Bodies
 pub mod Comments
 pub mod Instructions
+pub mod Targets
 pub mod Notations
 pub mod Entities
 pub mod Attlists

@@ -1,15 +1,18 @@
 -- Appendix B's tables ascend, and its classes have XML's ASCII part, by computed tests. Assumes nothing.
 use mathlib.Core.Bool.{Bool, true, _&&_}
 use mathlib.Core.Path.{_≡_, refl}
-use Prim.Native.Nat.{ℕ}
+use Prim.Native.Nat.{ℕ, _<_}
 use Rattle.spec.specs.Grammar.AppendixB.{base-chars, ideographs, combining, digits, extenders, in-table, ascending, start-char, part-char, appendix-B}
 use Rattle.spec.specs.Grammar.Names.{Dialect, AsciiNames, start-sign, part-sign}
 use Rattle.spec.proofs.Agreement.Signs.{below, below-at, at-below}
 use Rattle.spec.proofs.Base.Tests.{alike, alike-same, same-alike, and-left, and-right, and-both}
 
 -- whether two classes have the same characters below 128
-abbrev same-below : (ℕ → Bool) → (ℕ → Bool) → Bool
+abbrev pub same-below : (ℕ → Bool) → (ℕ → Bool) → Bool
 same-below p q = below 128 (λ c. alike (p c) (q c))
+
+pub same-at : (p q : ℕ → Bool) → same-below p q ≡ true → (c : ℕ) → c < 128 → p c ≡ q c
+same-at p q e c h = alike-same (p c) (q c) (below-at 128 (λ c. alike (p c) (q c)) e c h)
 
 -- whether name classes have XML's ASCII part
 abbrev pub ascii-test : (ℕ → Bool) → (ℕ → Bool) → Bool
@@ -24,8 +27,8 @@ module _ (D : Dialect) where
 
   pub ascii-names : ascii-test (D .start) (D .part) ≡ true → AsciiNames D
   ascii-names e = record {
-    start-ascii = λ c h. alike-same (D .start c) (start-sign c) (below-at 128 (λ c. alike (D .start c) (start-sign c)) (and-left starts parts e) c h);
-    part-ascii = λ c h. alike-same (D .part c) (part-sign c) (below-at 128 (λ c. alike (D .part c) (part-sign c)) (and-right starts parts e) c h);
+    start-ascii = same-at (D .start) start-sign (and-left starts parts e);
+    part-ascii = same-at (D .part) part-sign (and-right starts parts e);
   }
 
   pub ascii-passes : AsciiNames D → ascii-test (D .start) (D .part) ≡ true

@@ -6,6 +6,7 @@ use mathlib.Core.Logic.{_⊎_}
 use mathlib.Core.Path.{_≡_, refl, sym, _∙_, ap, subst}
 use Prim.Native.Nat.{ℕ, suc, _+_, _<_}
 use Prim.Native.String.{String}
+use native.Mathlib.Nat.{zero-add}
 use native.Mathlib.Omega.{arith}
 use lib.Dec.{T, ltb}
 use lib.ListN.{length, take, drop, take-append-drop}
@@ -48,7 +49,7 @@ free-unmarked : (u : List ℕ) → Star (Ch any) u → contains pi-close u ≡ f
 unfolding Text
 free-unmarked u s f = (s, free-holds "?>" 63 (62 ∷ []) refl tt u f)
 
-abbrev solid : ℕ → Bool
+abbrev pub solid : ℕ → Bool
 solid = none-of " \t\r\n"
 
 solid-split : (u : List ℕ) → (drop (run solid u) u ≡ []) ⊎ ((b : ℕ) × (r : List ℕ) × (drop (run solid u) u ≡ b ∷ r) × T (space b))
@@ -61,10 +62,11 @@ solid-split (b ∷ u) = go (space b) refl (solid-split u)
     go true e ih = Logic.inr (b, u, refl, true→T (space b) e)
     go false e ih = ih
 
-run-solid : (x o : List ℕ) → avoids-all (ascii " \t\r\n") x ≡ true → run solid o ≡ 0 → run solid (x ++ o) ≡ length x
+pub run-solid : (x o : List ℕ) → avoids-all (ascii " \t\r\n") x ≡ true → run solid (x ++ o) ≡ length x + run solid o
 unfolding run
-run-solid [] o h z = z
-run-solid (b ∷ x) o h z = rw (and-left (solid b) (avoids-all (ascii " \t\r\n") x) h) (ap suc (run-solid x o (and-right (solid b) (avoids-all (ascii " \t\r\n") x) h) z))
+run-solid [] o h = sym (zero-add (run solid o))
+run-solid (b ∷ x) o h =
+    rw (and-left (solid b) (avoids-all (ascii " \t\r\n") x) h) (ap suc (run-solid x o (and-right (solid b) (avoids-all (ascii " \t\r\n") x) h)) ∙ (let e : suc (length x + run solid o) ≡ suc (length x) + run solid o = omega arith in e))
 
 -- xml in any case
 abbrev Xml : Lang
@@ -127,21 +129,27 @@ module _ (D : Dialect) (A : AsciiNames D) where
   unfolding Name
   name-avoids a l s p t n = ap (avoids a) (n .split) ∙ avoids-append a (n .left) (n .right) ∙ (λ i. class-avoids (D .start) a l s (star-one (n .first)) i && class-avoids (D .part) a l p (n .second) i)
 
-  pub sign-avoids : (a : ℕ) → a < 128 → start-sign a ≡ false → part-sign a ≡ false → (t : List ℕ) → PITarget D t → avoids a t ≡ true
-  unfolding PITarget NCName
-  sign-avoids a l s p t x = name-avoids a l (A .start-ascii a l ∙ s) (A .part-ascii a l ∙ p) t (x .0 .0)
+  sign-avoids : (a : ℕ) → a < 128 → start-sign a ≡ false → part-sign a ≡ false → (t : List ℕ) → Name D t → avoids a t ≡ true
+  sign-avoids a l s p = name-avoids a l (A .start-ascii a l ∙ s) (A .part-ascii a l ∙ p)
 
-  -- so it has none of some signs, if a computed test says that none is of a name
-  pub target-avoids : (s : List ℕ) → each-of (λ a. ltb a 128 && (not (start-sign a) && not (part-sign a))) s ≡ true → (t : List ℕ) → PITarget D t → avoids-all s t ≡ true
-  target-avoids s h t x = avoids-each s t
+  -- so a name has none of some signs, if a computed test says that none is of a name; and a target is a name
+  pub name-avoids-all : (s : List ℕ) → each-of (λ a. ltb a 128 && (not (start-sign a) && not (part-sign a))) s ≡ true → (t : List ℕ) → Name D t → avoids-all s t ≡ true
+  name-avoids-all s h t x = avoids-each s t
       (λ a m.
       let e : (ltb a 128 && (not (start-sign a) && not (part-sign a))) ≡ true = each-at (λ a. ltb a 128 && (not (start-sign a) && not (part-sign a))) s h a m in
       let f : (not (start-sign a) && not (part-sign a)) ≡ true = and-right (ltb a 128) (not (start-sign a) && not (part-sign a)) e in
       sign-avoids a (leb-true (suc a) 128 (and-left (ltb a 128) (not (start-sign a) && not (part-sign a)) e)) (not-true (start-sign a) (and-left (not (start-sign a)) (not (part-sign a)) f)) (not-true (part-sign a) (and-right (not (start-sign a)) (not (part-sign a)) f)) t x)
 
+  target-name : (t : List ℕ) → PITarget D t → Name D t
+  unfolding PITarget NCName
+  target-name t x = x .0 .0
+
+  pub target-avoids : (s : List ℕ) → each-of (λ a. ltb a 128 && (not (start-sign a) && not (part-sign a))) s ≡ true → (t : List ℕ) → PITarget D t → avoids-all s t ≡ true
+  target-avoids s h t x = name-avoids-all s h t (target-name t x)
+
   pub inner-free : (u : List ℕ) → Inner u → contains pi-close u ≡ false
   unfolding S contains
-  inner-free u c = ap (contains pi-close) (c .split) ∙ contains-avoid 63 (62 ∷ []) (c .left) (c .right) (sign-avoids 63 (omega arith) refl refl (c .left) (c .first)) ∙ go (c .right) (c .second)
+  inner-free u c = ap (contains pi-close) (c .split) ∙ contains-avoid 63 (62 ∷ []) (c .left) (c .right) (sign-avoids 63 (omega arith) refl refl (c .left) (target-name (c .left) (c .first))) ∙ go (c .right) (c .second)
     where
       go : (o : List ℕ) → Opt (S · Unmarked) o → contains pi-close o ≡ false
       go o (inr e) = ap (contains pi-close) e
@@ -163,7 +171,8 @@ module _ (D : Dialect) (A : AsciiNames D) where
   inner-complete u c =
       let t : List ℕ = c .left in
       let (j, e) = target-complete t (c .first) in
-      let r : run solid (t ++ c .right) ≡ length t = run-solid t (c .right) (target-avoids (ascii " \t\r\n") refl t (c .first)) (space-run (c .right) (c .second)) in
+      let z : run solid (c .right) ≡ 0 = space-run (c .right) (c .second) in
+      let r : run solid (t ++ c .right) ≡ length t = omega (arith, run-solid t (c .right) (target-avoids (ascii " \t\r\n") refl t (c .first))) in
       (j, rw (c .split, r, take-append-seam t (c .right)) e)
 
   inner-sound : (u : List ℕ) (j : ℕ) → Star (Ch any) u → contains pi-close u ≡ false → check-pi D u ≡ ok j → Inner u

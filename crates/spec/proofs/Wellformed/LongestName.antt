@@ -243,3 +243,20 @@ module _ (D : Dialect) (w : List ℕ) where
       go : Named D w → (u v : List ℕ) → w ≡ u ++ v → Name D u → length u ≤ taken (name D w)
       go (a-name k z e t) = rw e (t .longest)
       go (no-name e f) = λ u v s h. absurd (f u v s h)
+
+  -- by its length: what is read, where it is something, and where it is nothing
+  pub name-read : (name-length D w ≡ 0 → ⊥) → name D w ≡ ok (name-length D w)
+  unfolding name-length
+  name-read = go named
+    where
+      go : Named D w → (taken (name D w) ≡ 0 → ⊥) → name D w ≡ ok (taken (name D w))
+      go (a-name k z e t) h = e ∙ (rw e)
+      go (no-name e f) h = absurd (h (rw e))
+
+  pub name-unread : name-length D w ≡ 0 → name D w ≡ err bad-name 0
+  unfolding name-length
+  name-unread = go named
+    where
+      go : Named D w → taken (name D w) ≡ 0 → name D w ≡ err bad-name 0
+      go (a-name k z e t) h = let l : k ≡ 0 = (rw e at h) in absurd (omega arith)
+      go (no-name e f) h = e
