@@ -1,11 +1,10 @@
 #!/usr/bin/env python3
-"""Writes the texts of crates/vectors/stdin, `call TAB ? TAB hexadecimal`, for an oracle to answer.
-
-    python3 tests/vectors/texts.py | ORACLE answer > crates/vectors/stdin
+"""Writes the texts of crates/vectors/stdin, `call TAB ? TAB hexadecimal`, for an oracle to answer: `python3 tests/vectors/texts.py | ORACLE answer`.
 
 ORACLE is the unchanged Rust behind a driver that fills the second column (docs/DIFFERENCES.md says which). The texts do not depend on
 it: the ends of every range of production 2 and of Appendix B and their neighbours, each byte sequence that RFC 3629 begins or breaks
-off, references around every limit, and texts, DOCTYPEs, XML declarations and the gate's calls put together at random from fixed seeds.
+off, references around every limit, each ASCII character in a public identifier, both orders of mixed connectors, and texts, DOCTYPEs, XML
+declarations and the gate's calls put together at random from fixed seeds.
 """
 import random
 import re
@@ -213,6 +212,17 @@ def doctypes(seed, count):
         line("check_doctype", f"615b+20*{size - 1}+5d")
 
 
+# What a choice among signs can get wrong: each connector before the other, each character of a public identifier in either quote.
+def signs():
+    for model in ("(c|d,e)", "(c,d|e)", "(c|(d,e))", "(c,(d|e))", "((c|d),e|f)", "((c,d)|e,f)", "(c|d|e,f)", "(c,d,e|f)"):
+        line("check_doctype", f"a[<!ELEMENT b {model}>]".encode())
+    for c in range(0x80):
+        for quote in "\"'":
+            public = f"PUBLIC {quote}-{chr(c)}{quote}"
+            line("check_doctype", f"a {public} 's'".encode())
+            line("check_doctype", f"a[<!NOTATION n {public}>]".encode())
+
+
 def cuts(seed, count):
     made = Doctypes(seed)
     for _ in range(count):
@@ -298,6 +308,7 @@ def main():
     mixtures(20261115, 700)
     limits()
     doctypes(20261116, 4000)
+    signs()
     cuts(20261117, 40)
     declarations(20261118, 1500)
     gates(20261119, 500)

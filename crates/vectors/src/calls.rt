@@ -6,7 +6,8 @@ use classes::Names;
 use scan::Scanned;
 
 // What the call named `word` answers on `text`. A new call is one more `if` here, or in `number` or
-// `character_number` where it answers by a number alone, or in places.rt where it tells a place.
+// `character_number` where it answers by a number alone, in places.rt where it tells a place, or in
+// cursors.rt where it reads any bytes.
 pub fn reply(word: &[u8], text: &[u8]) -> Reply {
     if bytes::same(word, b"utf8") {
         let verdict = source::is_utf8(text);

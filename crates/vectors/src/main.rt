@@ -6,6 +6,7 @@ ghost use lib.ListN.{length};
 
 mod bytes;
 mod calls;
+mod cursors;
 mod gates;
 mod line;
 mod places;

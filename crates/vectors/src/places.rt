@@ -1,5 +1,6 @@
 // The checks that tell the place of a refusal.
 use crate::bytes;
+use crate::cursors;
 use crate::reply::Reply;
 use error::Stop;
 
@@ -30,7 +31,7 @@ fn character_place(word: &[u8], text: &[u8]) -> Reply {
     if bytes::same(word, b"check_char_refs_at") {
         return placed(chars::check_char_refs_at(text));
     }
-    Reply::Unknown
+    cursors::reply(word, text)
 }
 
 fn placed(stop: Stop) -> Reply {
