@@ -42,58 +42,58 @@ static void checked(const char *call, check *function, const char *text, size_t 
 
 static void checks(void)
 {
-    CHECK(check_chars, "", 0);
-    CHECK(check_chars, "a\tb\xef\xbf\xbd", 0);
-    CHECK(check_chars, "a\x01", 18);
-    CHECK(check_chars, "a\0b", 18);
-    CHECK(check_chars, "\xef\xbf\xbf", 18);
-    CHECK(check_chars, "a\xff", 2);
+    CHECK(check_chars, "", MOXKELDI_ACCEPTED);
+    CHECK(check_chars, "a\tb\xef\xbf\xbd", MOXKELDI_ACCEPTED);
+    CHECK(check_chars, "a\x01", MOXKELDI_ILLEGAL_CHARACTER);
+    CHECK(check_chars, "a\0b", MOXKELDI_ILLEGAL_CHARACTER);
+    CHECK(check_chars, "\xef\xbf\xbf", MOXKELDI_ILLEGAL_CHARACTER);
+    CHECK(check_chars, "a\xff", MOXKELDI_NOT_UTF8);
 
-    CHECK(check_text, "<&", 0);
-    CHECK(check_text, "]]>", 19);
-    CHECK(check_text, "&#X41;", 15);
-    CHECK(check_text, "a]]", 0);
+    CHECK(check_text, "<&", MOXKELDI_ACCEPTED);
+    CHECK(check_text, "]]>", MOXKELDI_CDATA_END);
+    CHECK(check_text, "&#X41;", MOXKELDI_BAD_REFERENCE);
+    CHECK(check_text, "a]]", MOXKELDI_ACCEPTED);
 
-    CHECK(check_attr_value, "\"'", 0);
-    CHECK(check_attr_value, "<", 14);
-    CHECK(check_attr_value, "&#0;", 16);
+    CHECK(check_attr_value, "\"'", MOXKELDI_ACCEPTED);
+    CHECK(check_attr_value, "<", MOXKELDI_LESS_THAN);
+    CHECK(check_attr_value, "&#0;", MOXKELDI_ILLEGAL_REFERENCE);
 
-    CHECK(check_char_refs, "&#65;&#x10FFFF;", 0);
-    CHECK(check_char_refs, "&#4294967361;", 16);
-    CHECK(check_char_refs, "&#6", 15);
-    CHECK(check_char_refs, "&", 0);
+    CHECK(check_char_refs, "&#65;&#x10FFFF;", MOXKELDI_ACCEPTED);
+    CHECK(check_char_refs, "&#4294967361;", MOXKELDI_ILLEGAL_REFERENCE);
+    CHECK(check_char_refs, "&#6", MOXKELDI_BAD_REFERENCE);
+    CHECK(check_char_refs, "&", MOXKELDI_ACCEPTED);
 
-    CHECK(check_name, "a:b", 0);
-    CHECK(check_name, "\xc3\xa9t\xc3\xa9", 0);
-    CHECK(check_name, "", 4);
-    CHECK(check_name, "-a", 4);
+    CHECK(check_name, "a:b", MOXKELDI_ACCEPTED);
+    CHECK(check_name, "\xc3\xa9t\xc3\xa9", MOXKELDI_ACCEPTED);
+    CHECK(check_name, "", MOXKELDI_BAD_NAME);
+    CHECK(check_name, "-a", MOXKELDI_BAD_NAME);
 
-    CHECK(check_doctype, "a", 0);
-    CHECK(check_doctype, "", 4);
-    CHECK(check_doctype, "a SYSTEM", 3);
-    CHECK(check_doctype, "a[<!ENTITY b:c \"\">]", 5);
-    CHECK(check_doctype, "a SYSTEM x", 6);
-    CHECK(check_doctype, "a[", 7);
-    CHECK(check_doctype, "a[<![INCLUDE[]]>]", 8);
-    CHECK(check_doctype, "a[]b", 9);
-    CHECK(check_doctype, "a PUBLIC \"^\" \"s\"", 10);
-    CHECK(check_doctype, "a[<?Xml?>]", 11);
-    CHECK(check_doctype, "a[<!--a--b-->]", 12);
-    CHECK(check_doctype, "a[<!ELEMENT b (c,d|e)>]", 13);
-    CHECK(check_doctype, "a[<!ATTLIST b c CDATA \"<\">]", 14);
-    CHECK(check_doctype, "a[<!ENTITY e \"&#x;\">]", 15);
-    CHECK(check_doctype, "a[<!ENTITY e \"&#0;\">]", 16);
-    CHECK(check_doctype, "a[<!ENTITY e \"\x01\">]", 0);
+    CHECK(check_doctype, "a", MOXKELDI_ACCEPTED);
+    CHECK(check_doctype, "", MOXKELDI_BAD_NAME);
+    CHECK(check_doctype, "a SYSTEM", MOXKELDI_SPACE_REQUIRED);
+    CHECK(check_doctype, "a[<!ENTITY b:c \"\">]", MOXKELDI_COLON);
+    CHECK(check_doctype, "a SYSTEM x", MOXKELDI_LITERAL_MISSING);
+    CHECK(check_doctype, "a[", MOXKELDI_UNTERMINATED);
+    CHECK(check_doctype, "a[<![INCLUDE[]]>]", MOXKELDI_UNEXPECTED);
+    CHECK(check_doctype, "a[]b", MOXKELDI_TRAILING);
+    CHECK(check_doctype, "a PUBLIC \"^\" \"s\"", MOXKELDI_PUBLIC_ID);
+    CHECK(check_doctype, "a[<?Xml?>]", MOXKELDI_RESERVED_TARGET);
+    CHECK(check_doctype, "a[<!--a--b-->]", MOXKELDI_DOUBLE_HYPHEN);
+    CHECK(check_doctype, "a[<!ELEMENT b (c,d|e)>]", MOXKELDI_CONTENT_MODEL);
+    CHECK(check_doctype, "a[<!ATTLIST b c CDATA \"<\">]", MOXKELDI_LESS_THAN);
+    CHECK(check_doctype, "a[<!ENTITY e \"&#x;\">]", MOXKELDI_BAD_REFERENCE);
+    CHECK(check_doctype, "a[<!ENTITY e \"&#0;\">]", MOXKELDI_ILLEGAL_REFERENCE);
+    CHECK(check_doctype, "a[<!ENTITY e \"\x01\">]", MOXKELDI_ACCEPTED);
 
-    CHECK(check_declaration, "xml version=\"1.0\" encoding='UTF-8' standalone=\"yes\"", 0);
-    CHECK(check_declaration, "xml version=\"1.\"", 17);
-    CHECK(check_declaration, "xml version=\"1.0\"encoding=\"u\"", 3);
-    CHECK(check_declaration, "", 8);
+    CHECK(check_declaration, "xml version=\"1.0\" encoding='UTF-8' standalone=\"yes\"", MOXKELDI_ACCEPTED);
+    CHECK(check_declaration, "xml version=\"1.\"", MOXKELDI_DECLARATION_VALUE);
+    CHECK(check_declaration, "xml version=\"1.0\"encoding=\"u\"", MOXKELDI_SPACE_REQUIRED);
+    CHECK(check_declaration, "", MOXKELDI_UNEXPECTED);
 
-    CHECK(is_utf8, "", 0);
-    CHECK(is_utf8, "\xf4\x8f\xbf\xbf", 0);
-    CHECK(is_utf8, "\xed\xa0\x80", 2);
-    CHECK(is_utf8, "\xe6\x97", 2);
+    CHECK(is_utf8, "", MOXKELDI_ACCEPTED);
+    CHECK(is_utf8, "\xf4\x8f\xbf\xbf", MOXKELDI_ACCEPTED);
+    CHECK(is_utf8, "\xed\xa0\x80", MOXKELDI_NOT_UTF8);
+    CHECK(is_utf8, "\xe6\x97", MOXKELDI_NOT_UTF8);
 }
 
 typedef uint8_t check_at(const uint8_t *text, size_t len, size_t *place);
@@ -113,22 +113,22 @@ static void located(const char *call, check_at *function, const char *text, size
 
 static void places(void)
 {
-    AT(check_chars_at, "a\tb", "", 0);
-    AT(check_chars_at, "a\xc3\xa9", "\x01", 18);
-    AT(check_chars_at, "a\xc3\xa9", "\xc3(", 2);
-    AT(check_text_at, "a]] b", "]]>", 19);
-    AT(check_text_at, "&#65;", "&#X41;", 15);
-    AT(check_attr_value_at, "&#60;", "<", 14);
-    AT(check_attr_value_at, "", "", 0);
-    AT(check_char_refs_at, "& &#65;", "&#0;", 16);
-    AT(check_name_at, "a.b", "/c", 4);
-    AT(check_name_at, "", "", 4);
-    AT(check_doctype_at, "a[<!ATTLIST b\n c CDATA #IMPLIED\n d CDATA", "'e'>]", 3);
-    AT(check_doctype_at, "a[<!ELEMENT b (c,d", "|e)>]", 13);
-    AT(check_doctype_at, "a[<!--", "b", 7);
-    AT(check_doctype_at, "a[<!ENTITY b ''>] ", "", 0);
-    AT(check_declaration_at, "xml version=\"", "2.0\"", 17);
-    AT(check_declaration_at, "xml version='1.0'", "", 0);
+    AT(check_chars_at, "a\tb", "", MOXKELDI_ACCEPTED);
+    AT(check_chars_at, "a\xc3\xa9", "\x01", MOXKELDI_ILLEGAL_CHARACTER);
+    AT(check_chars_at, "a\xc3\xa9", "\xc3(", MOXKELDI_NOT_UTF8);
+    AT(check_text_at, "a]] b", "]]>", MOXKELDI_CDATA_END);
+    AT(check_text_at, "&#65;", "&#X41;", MOXKELDI_BAD_REFERENCE);
+    AT(check_attr_value_at, "&#60;", "<", MOXKELDI_LESS_THAN);
+    AT(check_attr_value_at, "", "", MOXKELDI_ACCEPTED);
+    AT(check_char_refs_at, "& &#65;", "&#0;", MOXKELDI_ILLEGAL_REFERENCE);
+    AT(check_name_at, "a.b", "/c", MOXKELDI_BAD_NAME);
+    AT(check_name_at, "", "", MOXKELDI_BAD_NAME);
+    AT(check_doctype_at, "a[<!ATTLIST b\n c CDATA #IMPLIED\n d CDATA", "'e'>]", MOXKELDI_SPACE_REQUIRED);
+    AT(check_doctype_at, "a[<!ELEMENT b (c,d", "|e)>]", MOXKELDI_CONTENT_MODEL);
+    AT(check_doctype_at, "a[<!--", "b", MOXKELDI_UNTERMINATED);
+    AT(check_doctype_at, "a[<!ENTITY b ''>] ", "", MOXKELDI_ACCEPTED);
+    AT(check_declaration_at, "xml version=\"", "2.0\"", MOXKELDI_DECLARATION_VALUE);
+    AT(check_declaration_at, "xml version='1.0'", "", MOXKELDI_ACCEPTED);
 }
 
 static void depth(void)
@@ -145,7 +145,7 @@ static void depth(void)
         len += groups;
         memcpy(text + len, ">]", 2);
         len += 2;
-        checked("check_doctype", moxkeldi_check_doctype, text, len, groups == 64 ? 0 : 20);
+        checked("check_doctype", moxkeldi_check_doctype, text, len, groups == 64 ? MOXKELDI_ACCEPTED : MOXKELDI_TOO_DEEP);
     }
 }
 
@@ -207,23 +207,24 @@ static void limit(void)
     check *const functions[] = {moxkeldi_check_chars,   moxkeldi_check_text,    moxkeldi_check_attr_value,  moxkeldi_check_char_refs,
                                 moxkeldi_check_name,    moxkeldi_check_doctype, moxkeldi_is_utf8,           moxkeldi_check_declaration};
     for (size_t k = 0; k < sizeof functions / sizeof functions[0]; k++) {
-        expect("limit", "at it", functions[k](text, len), functions[k] == moxkeldi_check_declaration ? 8 : 0);
-        expect("limit", "one byte more", functions[k](text, len + 1), 1);
+        bool no_text = functions[k] == moxkeldi_check_declaration;
+        expect("limit", "at it", functions[k](text, len), no_text ? MOXKELDI_UNEXPECTED : MOXKELDI_ACCEPTED);
+        expect("limit", "one byte more", functions[k](text, len + 1), MOXKELDI_TOO_LONG);
     }
     size_t start = 7777;
-    expect("check_doctype_at", "one byte more", moxkeldi_check_doctype_at(text, len + 1, &start), 1);
+    expect("check_doctype_at", "one byte more", moxkeldi_check_doctype_at(text, len + 1, &start), MOXKELDI_TOO_LONG);
     expect("check_doctype_at, place", "one byte more", start, 0);
     bool yes = true;
-    expect("is_ncname", "one byte more", moxkeldi_is_ncname(text, len + 1, &yes), 1);
+    expect("is_ncname", "one byte more", moxkeldi_is_ncname(text, len + 1, &yes), MOXKELDI_TOO_LONG);
     expect("is_ncname, yes", "one byte more", yes, false);
     uint8_t answer = 77;
     size_t place = 7777;
-    expect("scan", "one byte more", moxkeldi_scan(text, len + 1, &answer, &place), 1);
+    expect("scan", "one byte more", moxkeldi_scan(text, len + 1, &answer, &place), MOXKELDI_TOO_LONG);
     expect("scan, answer", "one byte more", answer, 77);
     expect("scan, place", "one byte more", place, 7777);
     moxkeldi_gate gate = {0};
-    expect("decl", "one byte more", moxkeldi_decl(&gate, text, len + 1), 1);
-    expect("doctype", "one byte more", moxkeldi_doctype(&gate, MOXKELDI_PROLOG, text, len + 1), 1);
+    expect("decl", "one byte more", moxkeldi_decl(&gate, text, len + 1), MOXKELDI_TOO_LONG);
+    expect("doctype", "one byte more", moxkeldi_doctype(&gate, MOXKELDI_PROLOG, text, len + 1), MOXKELDI_TOO_LONG);
     expect("gate, started", "one byte more", gate.started, false);
     expect("gate, refused", "one byte more", gate.refused, 2);
     free(text);
@@ -260,12 +261,12 @@ static void gates(void)
     const char *xml = "xml version=\"1.0\"";
 
     moxkeldi_gate usual = {0};
-    expect("decl", xml, decl(&usual, xml), 0);
+    expect("decl", xml, decl(&usual, xml), MOXKELDI_ACCEPTED);
     recorded("after the declaration", &usual, true, false, false, 0);
-    expect("doctype", "a[]", doctype(&usual, MOXKELDI_PROLOG, "a[]"), 0);
+    expect("doctype", "a[]", doctype(&usual, MOXKELDI_PROLOG, "a[]"), MOXKELDI_ACCEPTED);
     recorded("after the DOCTYPE", &usual, true, true, false, 0);
-    expect("doctype", "a second one", doctype(&usual, MOXKELDI_PROLOG, "a"), 21);
-    expect("decl", "not first", decl(&usual, xml), 21);
+    expect("doctype", "a second one", doctype(&usual, MOXKELDI_PROLOG, "a"), MOXKELDI_OUT_OF_PLACE);
+    expect("decl", "not first", decl(&usual, xml), MOXKELDI_OUT_OF_PLACE);
     recorded("after both again", &usual, true, true, false, 2);
 
     moxkeldi_gate open = {0};
@@ -273,18 +274,18 @@ static void gates(void)
     recorded("open", &open, true, true, true, 0);
 
     moxkeldi_gate late = {0};
-    expect("doctype", "a character before the phase", doctype(&late, MOXKELDI_ROOT, "a\x01"), 18);
-    expect("doctype", "in the root", doctype(&late, MOXKELDI_ROOT, "a"), 21);
-    expect("doctype", "in the epilog", doctype(&late, MOXKELDI_EPILOG, "a"), 21);
+    expect("doctype", "a character before the phase", doctype(&late, MOXKELDI_ROOT, "a\x01"), MOXKELDI_ILLEGAL_CHARACTER);
+    expect("doctype", "in the root", doctype(&late, MOXKELDI_ROOT, "a"), MOXKELDI_OUT_OF_PLACE);
+    expect("doctype", "in the epilog", doctype(&late, MOXKELDI_EPILOG, "a"), MOXKELDI_OUT_OF_PLACE);
     recorded("nothing seen yet", &late, true, false, false, 3);
-    expect("doctype", "in the prolog", doctype(&late, MOXKELDI_PROLOG, "a"), 0);
+    expect("doctype", "in the prolog", doctype(&late, MOXKELDI_PROLOG, "a"), MOXKELDI_ACCEPTED);
     recorded("seen now", &late, true, true, false, 3);
 
     moxkeldi_gate bytes = {false, false, false, 65534};
-    expect("decl", "not UTF-8", decl(&bytes, "\xff"), 2);
-    expect("doctype", "not UTF-8", doctype(&bytes, MOXKELDI_PROLOG, "\xff"), 2);
+    expect("decl", "not UTF-8", decl(&bytes, "\xff"), MOXKELDI_NOT_UTF8);
+    expect("doctype", "not UTF-8", doctype(&bytes, MOXKELDI_PROLOG, "\xff"), MOXKELDI_NOT_UTF8);
     recorded("held at 65535", &bytes, false, false, false, 65535);
-    expect("decl", "refused", decl(&bytes, "xml"), 3);
+    expect("decl", "refused", decl(&bytes, "xml"), MOXKELDI_SPACE_REQUIRED);
     recorded("still held", &bytes, true, false, false, 65535);
 }
 
