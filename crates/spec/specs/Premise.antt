@@ -2,14 +2,13 @@
 use mathlib.Core.Bool.{Bool, true, _&&_, _||_, not}
 use mathlib.Core.List.{List, [], _∷_}
 use Prim.Native.Nat.{ℕ, zero, suc, _-_}
-use Prim.Native.String.{String}
 use lib.Dec.{eqb, leb}
 use lib.ListN.{length, take, drop}
 use lib.Seq.{slice}
 use Rattle.spec.specs.Basics.{pick}
 use Rattle.spec.specs.Grammar.Languages.{ascii, one-of, none-of}
 use Rattle.spec.specs.Grammar.Names.{Dialect}
-use Rattle.spec.specs.Grammar.Division.{Kind, element, attlist, entity, notation, instruction, comment, reference, Entry, refers}
+use Rattle.spec.specs.Grammar.Division.{Kind, element, attlist, entity, notation, instruction, comment, reference, Entry, refers, keyword}
 use Rattle.spec.specs.Reading.Readers.{starts}
 use Rattle.spec.specs.Reading.Dtd.{has-pe-reference}
 use Rattle.spec.specs.Reading.Scan.{Scan, not-opened, not-closed, closed}
@@ -26,16 +25,7 @@ quiet quote [] = true
 quiet zero (b ∷ w) = (not (one-of "]" b) && not (starts (ascii "<!--") (b ∷ w))) && quiet (pick (one-of "\"'" b) b 0) w
 quiet (suc quote) (b ∷ w) = quiet (pick (eqb b (suc quote)) 0 (suc quote)) w
 
--- what a declaration begins with, and what stands between that and its '>'
-abbrev pub keyword : Kind → String
-keyword element = "<!ELEMENT"
-keyword attlist = "<!ATTLIST"
-keyword entity = "<!ENTITY"
-keyword notation = "<!NOTATION"
-keyword instruction = "<?"
-keyword comment = "<!--"
-keyword reference = "%"
-
+-- what stands between a declaration's keyword and its '>'
 abbrev pub body-of : Kind → List ℕ → List ℕ
 body-of k y = drop (length (ascii (keyword k))) (take (length y - 1) y)
 

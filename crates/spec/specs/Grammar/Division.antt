@@ -2,6 +2,7 @@
 use mathlib.Core.Bool.{Bool, true, false, _||_}
 use mathlib.Core.List.{List, [], _∷_}
 use Prim.Native.Nat.{ℕ, suc, _≤_, _<_}
+use Prim.Native.String.{String}
 use lib.ListN.{length, take, drop}
 use lib.Seq.{slice}
 use Rattle.spec.specs.Grammar.Languages.{Lang, lit, _·_, Opt}
@@ -29,14 +30,24 @@ refers instruction = false
 refers comment = false
 refers reference = true
 
+-- what a declaration begins with; the other kinds are no declarations
+abbrev pub keyword : Kind → String
+keyword element = "<!ELEMENT"
+keyword attlist = "<!ATTLIST"
+keyword entity = "<!ENTITY"
+keyword notation = "<!NOTATION"
+keyword instruction = ""
+keyword comment = ""
+keyword reference = ""
+
 module _ (D : Dialect) where
   -- what an entry of a kind may be, by whether a parameter-entity reference stood earlier between declarations:
   -- [45] elementdecl, [52] AttlistDecl, [70] EntityDecl, [82] NotationDecl, [16] PI, [15] Comment, [69] PEReference
   abbrev pub entry-of : Bool → Kind → Lang
-  entry-of pe element = lit "<!ELEMENT" · declared D pe (element-body D) · lit ">"
-  entry-of pe attlist = lit "<!ATTLIST" · declared D pe (attlist-body D) · lit ">"
-  entry-of pe entity = lit "<!ENTITY" · declared D pe (entity-body D) · lit ">"
-  entry-of pe notation = lit "<!NOTATION" · declared D pe (notation-body D) · lit ">"
+  entry-of pe element = lit (keyword element) · declared D pe (element-body D) · lit ">"
+  entry-of pe attlist = lit (keyword attlist) · declared D pe (attlist-body D) · lit ">"
+  entry-of pe entity = lit (keyword entity) · declared D pe (entity-body D) · lit ">"
+  entry-of pe notation = lit (keyword notation) · declared D pe (notation-body D) · lit ">"
   entry-of pe instruction = PI D
   entry-of pe comment = Comment
   entry-of pe reference = PEReference D
