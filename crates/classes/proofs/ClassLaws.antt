@@ -1,12 +1,11 @@
 -- The classes of characters of names: what the code tests first and what it leaves come to the grammar's classes. Assumes nothing.
 use mathlib.Core.Path.{_≡_, refl, sym, _∙_}
 use mathlib.Core.Logic.{_⊎_, inl, inr, ⊎-elim}
-use mathlib.Core.Bool.{Bool, true, false, _&&_, _||_, Bool·beq, true≢false, or-true, or-false}
+use mathlib.Core.Bool.{Bool, true, false, _&&_, _||_, true≢false, or-true, or-false}
 use mathlib.Core.List.{List, [], _∷_}
 use Prim.Native.Nat.{ℕ, zero, suc, _<_, _≤_}
 use native.Mathlib.Omega.{arith}
 use borrow.Author.Needs.{needs}
-use borrow.Author.Tests.{eqb-false}
 use lib.Dec.{eqb, ltb}
 use Rattle.spec.specs.Basics.{within}
 use Rattle.spec.specs.Grammar.AppendixB.{in-table, base-chars, ideographs, combining, digits, extenders, start-char, part-char}

@@ -8,12 +8,12 @@ use native.Mathlib.Omega.{arith}
 use borrow.Author.Needs.{needs}
 use borrow.Author.Tests.{not-true, not-false}
 use lib.Dec.{eqb}
-use lib.ListN.{length, getD, take, drop}
+use lib.ListN.{length, getD, drop}
 use lib.Seq.{drop-drop}
 use Rattle.spec.specs.Grammar.Characters.{space}
 use Rattle.spec.specs.Grammar.Languages.{ascii, none-of}
 use Rattle.spec.specs.Reading.Refusals.{number, bad-name, has-colon, reserved-target}
-use Rattle.spec.specs.Reading.Readers.{run, contains, before}
+use Rattle.spec.specs.Reading.Readers.{run, before}
 use Rattle.spec.specs.Reading.Wellformed.{name-length}
 use Rattle.spec.specs.Reading.Dtd.{reserved, check-pi}
 use Rattle.spec.proofs.Base.Places.{drop-at, drop-end}

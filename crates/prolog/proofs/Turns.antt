@@ -5,7 +5,7 @@ use mathlib.Core.List.{List, [], _∷_}
 use mathlib.Core.Logic.{_⊎_, inl, inr}
 use Prim.Native.Nat.{ℕ, zero, suc, _+_, _-_, _^_, _<_, _≤_}
 use Prim.Native.String.{String}
-use native.Mathlib.Nat.{add-zero, add-assoc}
+use native.Mathlib.Nat.{add-zero}
 use native.Mathlib.Omega.{arith}
 use borrow.Author.Needs.{needs}
 use mir.Syntax.{w64}
@@ -17,14 +17,14 @@ use Rattle.spec.specs.Basics.{pick}
 use Rattle.spec.specs.Grammar.Characters.{space}
 use Rattle.spec.specs.Grammar.Languages.{ascii, one-of}
 use Rattle.spec.specs.Reading.Prolog as Rule
-use Rattle.spec.specs.Reading.Prolog.{word-at, doctype-end, is-declaration, next-item}
+use Rattle.spec.specs.Reading.Prolog.{word-at, doctype-end, is-declaration, next-item, later-item}
 use Rattle.spec.specs.Reading.Readers.{starts, begins, run}
 use Rattle.spec.specs.Reading.Places.{Place, at, nowhere, later}
 use Rattle.spec.proofs.Agreement.Words.{starts-split}
 use Rattle.spec.proofs.Base.Places.{drop-end, front-at}
 use Rattle.spec.proofs.Base.Tests.{and-left, decide}
 use Rattle.spec.proofs.Prolog.Misc.{begins-sign}
-use Rattle.spec.proofs.Prolog.Turns.{moved, moved-none, next-space, next-comment, next-cut-comment, next-declaration, next-instruction, next-cut-instruction, next-doctype, next-other}
+use Rattle.spec.proofs.Prolog.Turns.{later-later-item, later-no-item, next-space, next-comment, next-cut-comment, next-declaration, next-instruction, next-cut-instruction, next-doctype, next-other}
 use Rattle.search.specs.FirstPlace.{first-place}
 use Rattle.search.specs.Places.{found, place-from}
 use Rattle.search.specs.declared.places.Found.{Found}
@@ -34,7 +34,7 @@ use Rattle.search.proofs.Placing.{from-nowhere, from-here}
 use Rattle.search.proofs.Words.{word-fits}
 use Rattle.prolog.specs.declared.items.Item.{Item}
 use Rattle.prolog.specs.declared.items.Item.the-variants.{Declaration, Doctype, Other, CutOff, CutDoctype}
-use Rattle.prolog.specs.Answers.{item, later-item, item-from, misc-end, begun}
+use Rattle.prolog.specs.Answers.{item, item-from, misc-end, begun}
 use Rattle.prolog.proofs.Ends.{word-from}
 
 -- one sign of five
@@ -150,21 +150,21 @@ run-again (b ∷ w) = go (space b) refl (run-again w)
     go true e ih = ih
     go false e ih = rw e
 
-over-space : (w : List ℕ) → next-item w ≡ moved (run space w) (next-item (drop (run space w) w))
+over-space : (w : List ℕ) → next-item w ≡ later-item (run space w) (next-item (drop (run space w) w))
 over-space w = go (run space w) refl
   where
-    go : (n : ℕ) → run space w ≡ n → next-item w ≡ moved n (next-item (drop n w))
-    go zero e = sym (moved-none (next-item w))
-    go (suc n) e = next-space w (omega arith) ∙ ap (λ (k : ℕ). moved k (next-item (drop k w))) e
+    go : (n : ℕ) → run space w ≡ n → next-item w ≡ later-item n (next-item (drop n w))
+    go zero e = sym (later-no-item (next-item w))
+    go (suc n) e = next-space w (omega arith) ∙ ap (λ (k : ℕ). later-item k (next-item (drop k w))) e
 
 -- and where there is none, by where a comment or an instruction ends
 abbrev by-end : List ℕ → Place → Rule.Item
 by-end w nowhere = Rule.cut-off 0
 by-end w (at zero) = begun w
-by-end w (at (suc n)) = moved (suc n) (next-item (drop (suc n) w))
+by-end w (at (suc n)) = later-item (suc n) (next-item (drop (suc n) w))
 
 module _ (w : List ℕ) (z : run space w ≡ 0) where
-  past-word : (m : ℕ) (p : Place) → (p ≡ nowhere → next-item w ≡ Rule.cut-off 0) → ((n : ℕ) → p ≡ at n → next-item w ≡ moved (n + suc m) (next-item (drop (n + suc m) w)))
+  past-word : (m : ℕ) (p : Place) → (p ≡ nowhere → next-item w ≡ Rule.cut-off 0) → ((n : ℕ) → p ≡ at n → next-item w ≡ later-item (n + suc m) (next-item (drop (n + suc m) w)))
       → next-item w ≡ by-end w (later (suc m) p)
   past-word m nowhere cut on = cut refl
   past-word m (at n) cut on =
@@ -184,19 +184,12 @@ module _ (w : List ℕ) (z : run space w ≡ 0) where
       go (inr a) (inr d) (inr i) (inl y) = rw (a, d, i, d, y) (next-doctype w z a d i y)
       go (inr a) (inr d) (inr i) (inr y) = rw (a, d, i, d, y) (next-other w z a d i y)
 
--- The loop of next_item. The invariant: what is next from i on is what is next, W; e is the place after the white space, and p says
--- where what begins there ends.
-item-moved : (k n : ℕ) (x : Rule.Item) → later-item k (moved n x) ≡ later-item (k + n) x
-item-moved k n (Rule.declaration i j) = simp add-assoc
-item-moved k n (Rule.doctype i j) = simp add-assoc
-item-moved k n (Rule.other i) = simp add-assoc
-item-moved k n (Rule.cut-off i) = simp add-assoc
-item-moved k n (Rule.cut-doctype i) = simp add-assoc
-
 next-nothing : next-item [] ≡ Rule.other 0
 unfolding next-item Rule.item-fuel run starts is-declaration
 next-nothing = refl
 
+-- The loop of next_item. The invariant: what is next from i on is what is next, W; e is the place after the white space, and p says
+-- where what begins there ends.
 module _ (s : List ℕ) (i : ℕ) (W : Rule.Item) (inv : item-from next-item s i ≡ W) where
   pub next-end : length s ≤ i → item (Other i) ≡ W
   unfolding item item-from
@@ -210,7 +203,7 @@ module _ (s : List ℕ) (i : ℕ) (W : Rule.Item) (inv : item-from next-item s i
     unfolding item-from
     here =
         rw (← by-misc (drop e s) no-space)
-        (rw (over-space (drop i s), item-moved i (run space (drop i s)) (next-item (drop (run space (drop i s)) (drop i s))), drop-drop, ← a) at inv)
+        (rw (over-space (drop i s), later-later-item i (run space (drop i s)) (next-item (drop (run space (drop i s)) (drop i s))), drop-drop, ← a) at inv)
 
     module _ (p : Found) (b : found p ≡ place-from misc-end s e) where
       pub next-cut : p ≡ Nowhere → item (CutOff e) ≡ W
@@ -224,7 +217,7 @@ module _ (s : List ℕ) (i : ℕ) (W : Rule.Item) (inv : item-from next-item s i
             let (n, f, g) = from-here misc-end s e p b j c in
             let l : n ≡ suc (n - 1) = omega arith in
             let m : e + suc (n - 1) ≡ j = omega arith in
-            rw (f ∙ ap at l, item-moved e (suc (n - 1)) (next-item (drop (suc (n - 1)) (drop e s))), drop-drop, m) at here
+            rw (f ∙ ap at l, later-later-item e (suc (n - 1)) (next-item (drop (suc (n - 1)) (drop e s))), drop-drop, m) at here
 
         pub next-begun : (r : Item) → j ≡ e → item r ≡ item-from begun s e → item r ≡ W
         unfolding item-from

@@ -1,11 +1,11 @@
 -- The code's answers in the rule's words, and the rule's items, counted from the text's first byte. Assumes nothing: these are definitions.
 use mathlib.Core.List.{List}
-use Prim.Native.Nat.{ℕ, _+_}
+use Prim.Native.Nat.{ℕ}
 use lib.ListN.{drop}
 use Rattle.spec.specs.Basics.{pick}
 use Rattle.spec.specs.Grammar.Languages.{ascii}
 use Rattle.spec.specs.Reading.Prolog as Rule
-use Rattle.spec.specs.Reading.Prolog.{word-at, doctype-end, is-declaration, declared, docked}
+use Rattle.spec.specs.Reading.Prolog.{later-item, word-at, doctype-end, is-declaration, declared, docked}
 use Rattle.spec.specs.Reading.Readers.{starts}
 use Rattle.spec.specs.Reading.Places.{Place, at, later}
 use Rattle.prolog.specs.declared.items.Item.{Item}
@@ -17,14 +17,6 @@ item (Doctype i j) = Rule.doctype i j
 item (Other i) = Rule.other i
 item (CutOff i) = Rule.cut-off i
 item (CutDoctype i) = Rule.cut-doctype i
-
--- an item that is counted from a place, counted from the text's first byte
-abbrev pub later-item : ℕ → Rule.Item → Rule.Item
-later-item from (Rule.declaration i j) = Rule.declaration (from + i) (from + j)
-later-item from (Rule.doctype i j) = Rule.doctype (from + i) (from + j)
-later-item from (Rule.other i) = Rule.other (from + i)
-later-item from (Rule.cut-off i) = Rule.cut-off (from + i)
-later-item from (Rule.cut-doctype i) = Rule.cut-doctype (from + i)
 
 -- what the rule says of the bytes from a place on
 unfoldable pub item-from : (List ℕ → Rule.Item) → List ℕ → ℕ → Rule.Item

@@ -14,7 +14,7 @@ use Rattle.spec.specs.Grammar.Names.{Dialect, AsciiNames}
 use Rattle.spec.specs.Grammar.References.{digit}
 use Rattle.spec.specs.Grammar.XmlDecl.{Eq, VersionNum, VersionInfo, enc-char, EncName, EncodingDecl, SDDecl, XMLDecl}
 use Rattle.spec.specs.Promises.{Covered}
-use Rattle.spec.specs.Reading.Prolog.{declaration, doctype, declared, docked, word-at, is-declaration, doctype-end, next-item}
+use Rattle.spec.specs.Reading.Prolog.{declaration, doctype, declared, docked, word-at, is-declaration, doctype-end, next-item, later-item}
 use Rattle.spec.specs.Reading.Readers.{starts, run}
 use Rattle.spec.specs.Reading.Places.{at}
 use Rattle.spec.proofs.Agreement.Chars.{begins-ch}
@@ -25,7 +25,7 @@ use Rattle.spec.proofs.Characters.Bytes.{avoids, class-avoids}
 use Rattle.spec.proofs.Characters.Text.{star-one, reclass}
 use Rattle.spec.proofs.Prolog.Heads.{doctype-ends}
 use Rattle.spec.proofs.Prolog.Misc.{pass-misc, ends-target, space-ends}
-use Rattle.spec.proofs.Prolog.Turns.{moved, next-declaration, next-doctype}
+use Rattle.spec.proofs.Prolog.Turns.{next-declaration, next-doctype}
 use Rattle.spec.proofs.Wellformed.References.{Avoiding, avoiding-cat, avoiding-lit, plus-avoiding}
 
 -- the DOCTYPE, after whatever may stand before it
@@ -34,7 +34,7 @@ module _ (D : Dialect) (A : AsciiNames D) where
       → next-item (m ++ (ascii "<!DOCTYPE" ++ (t ++ (62 ∷ r)))) ≡ doctype (length m + 9) (length m + 9 + length t)
   doctype-handed m t r s h =
       pass-misc D A (ascii "<!DOCTYPE" ++ (t ++ (62 ∷ r))) s
-      ∙ ap (moved (length m)) (at-doctype ∙ ap (docked 0) (doctype-ends D A t r h))
+      ∙ ap (later-item (length m)) (at-doctype ∙ ap (docked 0) (doctype-ends D A t r h))
       ∙ (let n : length m + (9 + length t) ≡ length m + 9 + length t = omega arith in ap (doctype (length m + 9)) n)
     where
       at-doctype : next-item (ascii "<!DOCTYPE" ++ (t ++ (62 ∷ r))) ≡ docked 0 (doctype-end (t ++ (62 ∷ r)))

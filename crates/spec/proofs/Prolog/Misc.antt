@@ -17,7 +17,7 @@ use Rattle.spec.specs.Grammar.Doctype.{Misc}
 use Rattle.spec.specs.Grammar.Languages.{ascii, Ch, _·_, _∣_, inl, inr, Star, end, more, Plus, Opt, one-of, among}
 use Rattle.spec.specs.Grammar.Names.{Dialect, PITarget, AsciiNames}
 use Rattle.spec.specs.Reading.Dtd.{reserved}
-use Rattle.spec.specs.Reading.Prolog.{word-at, is-declaration, next-item}
+use Rattle.spec.specs.Reading.Prolog.{word-at, is-declaration, next-item, later-item}
 use Rattle.spec.specs.Reading.Readers.{of-point, begins, starts, run}
 use Rattle.spec.specs.Reading.Utf8.{Point, point, no-point, decode1}
 use Rattle.spec.proofs.Agreement.Chars.{ch-some, sign, kind-encode}
@@ -31,7 +31,7 @@ use Rattle.spec.proofs.Characters.Text.{all-ascii, cat-size, plus-star}
 use Rattle.spec.proofs.Characters.Utf8.{encode-1, decode-1, decode-read, Read}
 use Rattle.spec.proofs.Dtd.Comments.{twice, first-close, Shaped, shape}
 use Rattle.spec.proofs.Dtd.Instructions.{Unmarked, Inner, inner-free, reserved-xml, target-avoids}
-use Rattle.spec.proofs.Prolog.Turns.{moved, moved-moved, moved-none, next-space, next-comment, next-instruction}
+use Rattle.spec.proofs.Prolog.Turns.{later-later-item, later-no-item, next-space, next-comment, next-instruction}
 
 -- a character of an ASCII class comes first just where its byte does
 module _ (s : String) (small : T (all-ascii (ascii s))) (none : one-of s 0 ≡ false) where
@@ -70,8 +70,8 @@ same-front s (a ∷ t) (d ∷ u) b c y v h g k l e =
     (λ i. f i ∷ n i)
 
 -- what is passed is a front part of known length
-passed : (u z : List ℕ) (n : ℕ) → length u ≡ n → next-item (u ++ z) ≡ moved n (next-item (drop n (u ++ z))) → next-item (u ++ z) ≡ moved (length u) (next-item z)
-passed u z n l e = e ∙ ap (λ (x : List ℕ). moved n (next-item x)) (drop-at u z n l) ∙ ap (λ (m : ℕ). moved m (next-item z)) (sym l)
+passed : (u z : List ℕ) (n : ℕ) → length u ≡ n → next-item (u ++ z) ≡ later-item n (next-item (drop n (u ++ z))) → next-item (u ++ z) ≡ later-item (length u) (next-item z)
+passed u z n l e = e ∙ ap (λ (x : List ℕ). later-item n (next-item x)) (drop-at u z n l) ∙ ap (λ (m : ℕ). later-item m (next-item z)) (sym l)
 
 -- White space: also what follows it may begin with white space, and the rule passes all of it at once.
 run-over : {u : List ℕ} (z : List ℕ) → Star (Ch space) u → run space (u ++ z) ≡ length u + run space z
@@ -86,31 +86,31 @@ run-over {u} z (more x y e c s) =
     first : (b : ℕ) (w : List ℕ) → space b ≡ true → run space (b ∷ w) ≡ suc (run space w)
     first b w h = unfold run in rw h
 
-pass-space : (u z : List ℕ) → S u → next-item (u ++ z) ≡ moved (length u) (next-item z)
+pass-space : (u z : List ℕ) → S u → next-item (u ++ z) ≡ later-item (length u) (next-item z)
 unfolding S
 pass-space u z s =
     let r : run space (u ++ z) ≡ length u + run space z = run-over z (plus-star s) in
     let l : length u ≡ length (s .left) + length (s .right) = cat-size s in
     let h : 0 < length (s .left) = ch-some (s .left) (s .first) in
     next-space (u ++ z) (omega arith)
-    ∙ ap (λ (n : ℕ). moved n (next-item (drop n (u ++ z)))) r
-    ∙ ap (λ (x : List ℕ). moved (length u + run space z) (next-item x)) (sym (drop-drop (run space z) (length u) (u ++ z)) ∙ ap (drop (run space z)) (drop-append-seam u z))
-    ∙ sym (moved-moved (length u) (run space z) (next-item (drop (run space z) z))) ∙ ap (moved (length u)) (sym (go (run space z) refl))
+    ∙ ap (λ (n : ℕ). later-item n (next-item (drop n (u ++ z)))) r
+    ∙ ap (λ (x : List ℕ). later-item (length u + run space z) (next-item x)) (sym (drop-drop (run space z) (length u) (u ++ z)) ∙ ap (drop (run space z)) (drop-append-seam u z))
+    ∙ sym (later-later-item (length u) (run space z) (next-item (drop (run space z) z))) ∙ ap (later-item (length u)) (sym (go (run space z) refl))
   where
-    go : (n : ℕ) → run space z ≡ n → next-item z ≡ moved n (next-item (drop n z))
-    go zero e = sym (moved-none (next-item z))
-    go (suc n) e = next-space z (omega arith) ∙ ap (λ (k : ℕ). moved k (next-item (drop k z))) e
+    go : (n : ℕ) → run space z ≡ n → next-item z ≡ later-item n (next-item (drop n z))
+    go zero e = sym (later-no-item (next-item z))
+    go (suc n) e = next-space z (omega arith) ∙ ap (λ (k : ℕ). later-item k (next-item (drop k z))) e
 
 -- a comment
-pass-comment : (u z : List ℕ) → Comment u → next-item (u ++ z) ≡ moved (length u) (next-item z)
+pass-comment : (u z : List ℕ) → Comment u → next-item (u ++ z) ≡ later-item (length u) (next-item z)
 pass-comment u z c =
     let s : Shaped u = shape u c in
     let t : List ℕ = s .text in
     let f : u ++ z ≡ 60 ∷ 33 ∷ 45 ∷ 45 ∷ (t ++ (45 ∷ 45 ∷ 62 ∷ z)) = ap (λ (x : List ℕ). x ++ z) (s .is) ∙ ap (λ (x : List ℕ). 60 ∷ 33 ∷ 45 ∷ 45 ∷ x) (append-assoc t (45 ∷ 45 ∷ 62 ∷ []) z) in
     passed u z (length t + 7) (let n : length (60 ∷ 33 ∷ 45 ∷ 45 ∷ (t ++ (45 ∷ 45 ∷ 62 ∷ []))) ≡ length t + 7 = omega (arith, length-append t (45 ∷ 45 ∷ 62 ∷ [])) in ap length (s .is) ∙ n)
-    (subst (λ (x : List ℕ). next-item x ≡ moved (length t + 7) (next-item (drop (length t + 7) x))) (sym f) (one t (s .single)))
+    (subst (λ (x : List ℕ). next-item x ≡ later-item (length t + 7) (next-item (drop (length t + 7) x))) (sym f) (one t (s .single)))
   where
-    one : (t : List ℕ) → twice t ≡ false → next-item (60 ∷ 33 ∷ 45 ∷ 45 ∷ (t ++ (45 ∷ 45 ∷ 62 ∷ z))) ≡ moved (length t + 7) (next-item (drop (length t + 7) (60 ∷ 33 ∷ 45 ∷ 45 ∷ (t ++ (45 ∷ 45 ∷ 62 ∷ z)))))
+    one : (t : List ℕ) → twice t ≡ false → next-item (60 ∷ 33 ∷ 45 ∷ 45 ∷ (t ++ (45 ∷ 45 ∷ 62 ∷ z))) ≡ later-item (length t + 7) (next-item (drop (length t + 7) (60 ∷ 33 ∷ 45 ∷ 45 ∷ (t ++ (45 ∷ 45 ∷ 62 ∷ z)))))
     one t h =
         next-comment (60 ∷ 33 ∷ 45 ∷ 45 ∷ (t ++ (45 ∷ 45 ∷ 62 ∷ z))) (unfold run in refl) (unfold starts in refl) (length t) (unfold word-at in (rw (contains-at 45 (45 ∷ 62 ∷ []) t z, first-close t z h)))
 
@@ -162,7 +162,7 @@ module _ (D : Dialect) (A : AsciiNames D) where
               let g : t ++ y ≡ 120 ∷ 109 ∷ 108 ∷ v = cc in
               by-rest v g (ap (λ (x : List ℕ). one-of ends-target (getD x 0 0)) (sym (ap (drop 5) f)) ∙ sym (begins-sign ends-target tt refl (drop 5 w)) ∙ and-right (starts (ascii "<?xml") w) (begins (one-of ends-target) (drop 5 w)) e)
 
-  pass-instruction : (u z : List ℕ) → PI D u → next-item (u ++ z) ≡ moved (length u) (next-item z)
+  pass-instruction : (u z : List ℕ) → PI D u → next-item (u ++ z) ≡ later-item (length u) (next-item z)
   unfolding PI
   pass-instruction u z l =
       let t : List ℕ = l .second .left in
@@ -175,21 +175,21 @@ module _ (D : Dialect) (A : AsciiNames D) where
       let d : is-declaration (60 ∷ 63 ∷ (i ++ (63 ∷ 62 ∷ z))) ≡ false =
       ap (λ (x : List ℕ). is-declaration (60 ∷ 63 ∷ x)) (append-assoc t o (63 ∷ 62 ∷ z)) ∙ not-declaration t (o ++ 63 ∷ 62 ∷ z) (l .second .first) (target-ended o (62 ∷ z) (l .second .second .first)) in
       passed u z (length i + 4) (let n : length (60 ∷ 63 ∷ (i ++ (63 ∷ 62 ∷ []))) ≡ length i + 4 = omega (arith, length-append i (63 ∷ 62 ∷ [])) in ap length e ∙ n)
-      (subst (λ (x : List ℕ). next-item x ≡ moved (length i + 4) (next-item (drop (length i + 4) x))) (sym f) (one i c d))
+      (subst (λ (x : List ℕ). next-item x ≡ later-item (length i + 4) (next-item (drop (length i + 4) x))) (sym f) (one i c d))
     where
-      one : (i : List ℕ) → Inner D A i → is-declaration (60 ∷ 63 ∷ (i ++ (63 ∷ 62 ∷ z))) ≡ false → next-item (60 ∷ 63 ∷ (i ++ (63 ∷ 62 ∷ z))) ≡ moved (length i + 4) (next-item (drop (length i + 4) (60 ∷ 63 ∷ (i ++ (63 ∷ 62 ∷ z)))))
+      one : (i : List ℕ) → Inner D A i → is-declaration (60 ∷ 63 ∷ (i ++ (63 ∷ 62 ∷ z))) ≡ false → next-item (60 ∷ 63 ∷ (i ++ (63 ∷ 62 ∷ z))) ≡ later-item (length i + 4) (next-item (drop (length i + 4) (60 ∷ 63 ∷ (i ++ (63 ∷ 62 ∷ z)))))
       one i c d =
           next-instruction (60 ∷ 63 ∷ (i ++ (63 ∷ 62 ∷ z))) (unfold run in refl) (unfold starts in refl) d (unfold starts in refl) (length i)
           (unfold word-at in (rw (contains-at 63 (62 ∷ []) i z, first-after 63 (62 ∷ []) refl i z (inner-free D A i c))))
 
-  pub pass-misc : {m : List ℕ} (z : List ℕ) → Star (Misc D) m → next-item (m ++ z) ≡ moved (length m) (next-item z)
+  pub pass-misc : {m : List ℕ} (z : List ℕ) → Star (Misc D) m → next-item (m ++ z) ≡ later-item (length m) (next-item z)
   unfolding Misc
-  pass-misc {m} z (end e) = ap (λ (x : List ℕ). next-item (x ++ z)) e ∙ sym (moved-none (next-item z)) ∙ ap (λ (x : List ℕ). moved (length x) (next-item z)) (sym e)
+  pass-misc {m} z (end e) = ap (λ (x : List ℕ). next-item (x ++ z)) e ∙ sym (later-no-item (next-item z)) ∙ ap (λ (x : List ℕ). later-item (length x) (next-item z)) (sym e)
   pass-misc {m} z (more u v e l s) =
-      ap (λ (x : List ℕ). next-item (x ++ z)) e ∙ ap next-item (append-assoc u v z) ∙ one l ∙ ap (moved (length u)) (pass-misc z s)
-      ∙ moved-moved (length u) (length v) (next-item z) ∙ ap (λ (n : ℕ). moved n (next-item z)) (sym (length-append u v) ∙ ap length (sym e))
+      ap (λ (x : List ℕ). next-item (x ++ z)) e ∙ ap next-item (append-assoc u v z) ∙ one l ∙ ap (later-item (length u)) (pass-misc z s)
+      ∙ later-later-item (length u) (length v) (next-item z) ∙ ap (λ (n : ℕ). later-item n (next-item z)) (sym (length-append u v) ∙ ap length (sym e))
     where
-      one : (Comment ∣ PI D ∣ S) u → next-item (u ++ (v ++ z)) ≡ moved (length u) (next-item (v ++ z))
+      one : (Comment ∣ PI D ∣ S) u → next-item (u ++ (v ++ z)) ≡ later-item (length u) (next-item (v ++ z))
       one (inl c) = pass-comment u (v ++ z) c
       one (inr (inl i)) = pass-instruction u (v ++ z) i
       one (inr (inr w)) = pass-space u (v ++ z) w

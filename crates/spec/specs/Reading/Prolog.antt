@@ -22,6 +22,14 @@ pub data Item : Type 0 where
   -- the bytes end within what begins here: a comment, an instruction or a declaration; a DOCTYPE
   cut-off cut-doctype : ℕ → Item
 
+-- the same, k bytes further on
+abbrev pub later-item : ℕ → Item → Item
+later-item k (declaration i j) = declaration (k + i) (k + j)
+later-item k (doctype i j) = doctype (k + i) (k + j)
+later-item k (other i) = other (k + i)
+later-item k (cut-off i) = cut-off (k + i)
+later-item k (cut-doctype i) = cut-doctype (k + i)
+
 -- the first place of a word
 unfoldable pub word-at : String → List ℕ → Place
 word-at s w = pick (contains (ascii s) w) (at (before (ascii s) w)) nowhere
