@@ -25,6 +25,7 @@ pub record Sample : Type 0 where
 abbrev pub sample : String → Bool → Bool → Sample
 sample s d c = record { text = s; derived = d; covered = c }
 
+-- the row says the truth of both
 pub record Sided (s : Sample) : Type 0 where
   pub grammar : (s .derived ≡ true) ↔ doctypedecl appendix-B (ascii (s .text))
   pub premise : (s .covered ≡ true) ↔ Covered appendix-B (ascii (s .text))
@@ -65,7 +66,7 @@ samples =
     ∷ sample "a[<!--b--c-->]" false false
     ∷ []
 
--- What may stand before a DOCTYPE: whether the text is one Misc.
+-- What may stand before a DOCTYPE: whether the text is one Misc, [27].
 pub record Piece : Type 0 where
   pub text : String
   pub misc : Bool

@@ -30,7 +30,7 @@ refers instruction = false
 refers comment = false
 refers reference = true
 
--- what a declaration begins with; the other kinds are no declarations
+-- what a declaration begins with, [45], [52], [70], [82]; the other kinds are no declarations
 abbrev pub keyword : Kind → String
 keyword element = "<!ELEMENT"
 keyword attlist = "<!ATTLIST"

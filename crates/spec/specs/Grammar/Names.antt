@@ -26,7 +26,7 @@ with-groups D n = record { start = D .start; part = D .part; groups = n; beyond 
 abbrev pub with-beyond : Dialect → Refusal → Dialect
 with-beyond D r = record { start = D .start; part = D .part; groups = D .groups; beyond = r }
 
--- XML's name characters below 128, the same in every edition: what begins a name, and what goes on with it
+-- XML's name characters below 128, the same in every edition: those of [4] NameStartChar, and those of [4a] NameChar
 abbrev pub start-sign : ℕ → Bool
 start-sign c = latin-letter c || one-of "_:" c
 
