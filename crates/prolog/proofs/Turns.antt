@@ -17,7 +17,8 @@ use Rattle.spec.specs.Basics.{pick}
 use Rattle.spec.specs.Grammar.Characters.{space}
 use Rattle.spec.specs.Grammar.Languages.{ascii, one-of}
 use Rattle.spec.specs.Reading.Prolog as Rule
-use Rattle.spec.specs.Reading.Prolog.{word-at, doctype-end, is-declaration, next-item, later-item}
+use Rattle.spec.specs.Reading.Document.{is-declaration}
+use Rattle.spec.specs.Reading.Prolog.{word-at, doctype-end, next-item, later-item}
 use Rattle.spec.specs.Reading.Readers.{starts, begins, run}
 use Rattle.spec.specs.Reading.Places.{Place, at, nowhere, later}
 use Rattle.spec.proofs.Agreement.Words.{starts-split}

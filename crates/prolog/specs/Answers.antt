@@ -5,7 +5,8 @@ use lib.ListN.{drop}
 use Rattle.spec.specs.Basics.{pick}
 use Rattle.spec.specs.Grammar.Languages.{ascii}
 use Rattle.spec.specs.Reading.Prolog as Rule
-use Rattle.spec.specs.Reading.Prolog.{later-item, word-at, doctype-end, is-declaration, declared, docked}
+use Rattle.spec.specs.Reading.Document.{is-declaration}
+use Rattle.spec.specs.Reading.Prolog.{later-item, word-at, doctype-end, declared, docked}
 use Rattle.spec.specs.Reading.Readers.{starts}
 use Rattle.spec.specs.Reading.Places.{Place, at, later}
 use Rattle.prolog.specs.declared.items.Item.{Item}

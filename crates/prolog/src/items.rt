@@ -8,7 +8,8 @@ use utf8::byte_at;
 ghost use mathlib.Core.Path.{_≡_};
 ghost use lib.ListN.{drop};
 ghost use Rattle.spec.specs.Grammar.Languages.{one-of};
-ghost use Rattle.spec.specs.Reading.Prolog.{is-declaration, next-item};
+ghost use Rattle.spec.specs.Reading.Document.{is-declaration};
+ghost use Rattle.spec.specs.Reading.Prolog.{next-item};
 ghost use Rattle.search.specs.Places.{found, place-from};
 ghost use Rattle.prolog.specs.Answers.{item, item-from, misc-end, begun};
 

@@ -9,12 +9,12 @@ use borrow.Author.Needs.{needs}
 use borrow.Author.Tests.{eqb-true, eqb-false}
 use lib.Dec.{eqb}
 use lib.ListN.{length}
-use Rattle.spec.specs.Basics.{pick}
+use Rattle.spec.specs.Basics.{pick, limit}
 use Rattle.spec.specs.Grammar.Languages.{Lang}
 use Rattle.spec.specs.Grammar.Characters.{Text}
 use Rattle.spec.specs.Reading.Refusals.{not-utf8}
 use Rattle.spec.specs.Reading.Readers.{Result, ok, err, Reader, number-of, on-ok, nothing}
-use Rattle.spec.specs.Reading.Source.{utf8, limit, admit, checked}
+use Rattle.spec.specs.Reading.Source.{utf8, admit, checked}
 use Rattle.spec.specs.Promises.{Checks, Tells}
 use Rattle.spec.proofs.Base.Tests.{leb-yes, leb-no}
 use Rattle.spec.proofs.Characters.Valid.{utf8-cases, utf8-complete}

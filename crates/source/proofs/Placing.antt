@@ -9,12 +9,12 @@ use native.Mathlib.Omega.{arith}
 use borrow.Author.Needs.{needs}
 use lib.Dec.{ltb}
 use lib.ListN.{length}
-use Rattle.spec.specs.Basics.{pick}
+use Rattle.spec.specs.Basics.{pick, limit}
 use Rattle.spec.specs.Grammar.Characters.{Text}
 use Rattle.spec.specs.Promises.{Stops}
 use Rattle.spec.specs.Reading.Readers.{ok, err, Reader, number-of, stop-of, on-ok, nothing}
 use Rattle.spec.specs.Reading.Refusals.{number, too-long, not-utf8}
-use Rattle.spec.specs.Reading.Source.{utf8, limit, admit, checked, checked-at}
+use Rattle.spec.specs.Reading.Source.{utf8, admit, checked, checked-at}
 use Rattle.spec.proofs.Characters.Valid.{utf8-cases, utf8-complete}
 use Rattle.spec.proofs.Inside.Checks.{Placed}
 use Rattle.error.specs.Read.{Said, passed, refused, said, answer-stop, placed, read}

@@ -7,13 +7,13 @@ use Prim.Native.Nat.{ℕ, zero, suc}
 use mathlib.Core.Bool.{true}
 use lib.Dec.{leb}
 use lib.ListN.{length}
+use Rattle.spec.specs.Basics.{limit}
 use Rattle.spec.specs.Conditions.{letters, Size, Limited, sizes, Alphabet, Ascii, alphabets}
 use Rattle.spec.specs.Grammar.AppendixB.{in-table, start-char, part-char, appendix-B}
 use Rattle.spec.specs.Grammar.Characters.{xml-char, Chars}
 use Rattle.spec.specs.Grammar.Languages.{end, more}
 use Rattle.spec.specs.Grammar.Names.{Dialect, with-classes}
 use Rattle.spec.specs.Grammar.Utf8.{encode}
-use Rattle.spec.specs.Reading.Source.{limit}
 use Rattle.spec.specs.Rows.{All}
 use Rattle.spec.proofs.Base.Tables.{by-test}
 use Rattle.spec.proofs.Base.Tests.{alike, alike-same, leb-true, leb-yes}

@@ -5,6 +5,7 @@ use mathlib.Core.List.{List, _++_}
 use Prim.Native.Nat.{ℕ, _≤_}
 use lib.Dec.{eqb, leb}
 use lib.ListN.{length}
+use Rattle.spec.specs.Basics.{limit}
 use Rattle.spec.specs.Grammar.Languages.{ascii}
 use Rattle.spec.specs.Grammar.Characters.{xml-char, Text}
 use Rattle.spec.specs.Grammar.Doctype.{doctypedecl}
@@ -38,7 +39,7 @@ use Rattle.spec.specs.Reading.Readers.{
   before,
   up-to,
 }
-use Rattle.spec.specs.Reading.Source.{utf8, limit, admit, checked, checked-at}
+use Rattle.spec.specs.Reading.Source.{utf8, admit, checked, checked-at}
 use Rattle.spec.specs.Reading.Wellformed.{reference, char-ref, ref-or-byte, check-char-refs, parts, name, check-name}
 use Rattle.spec.specs.Reading.Dtd.{
   skip-s,
@@ -84,6 +85,7 @@ use Rattle.spec.specs.Reading.Dtd.{
   parse-markup-decl,
   subset-fuel,
   parse-internal-subset,
+  doctype-before,
   check-doctype,
 }
 use Rattle.spec.specs.Reading.Checks.{all-of, is-version-num, valued, parse-eq-quoted, pseudo-attr, check-declaration}
@@ -188,7 +190,7 @@ unfolding
     skip-s require-s parse-quoted check-pubid parse-external-id check-att-value check-comment parse-comment outside take-decl-body reserved after connector connected group-of
     occurs bar-list word-among parse-default-decl on-quote second-literal nmtoken ncname parse-pe-reference has-pe-reference check-target check-pi parse-pi parse-mixed
     cp-of parse-group parse-children parse-contentspec parse-element-decl parse-att-type parse-att-def parse-attlist-decl ndata parse-entity-decl parse-notation-decl
-    finish-decl parse-markup-decl subset-fuel parse-internal-subset check-doctype kind-at divide bare quiet all-of is-version-num valued parse-eq-quoted pseudo-attr check-declaration
+    finish-decl parse-markup-decl subset-fuel parse-internal-subset doctype-before check-doctype kind-at divide bare quiet all-of is-version-num valued parse-eq-quoted pseudo-attr check-declaration
 all-computed = refl
 
 abbrev numbered-and-met : Bool

@@ -1,4 +1,4 @@
--- Choice by a test, and ranges of numbers. Assumes nothing.
+-- Choice by a test, ranges of numbers, and the longest text that is looked at. Assumes nothing.
 use mathlib.Core.Bool.{Bool, true, false, _&&_}
 use Prim.Native.Nat.{ℕ}
 use lib.Dec.{leb}
@@ -11,3 +11,7 @@ pick false a b = b
 -- lo ≤ n ≤ hi
 abbrev pub within : ℕ → ℕ → ℕ → Bool
 within lo hi n = leb lo n && leb n hi
+
+-- the longest text that is looked at, in bytes; added by document 01 (1)
+abbrev pub limit : ℕ
+limit = 1_048_576

@@ -11,3 +11,5 @@ pub mod Declarations
 pub mod Doctype
 pub mod XmlDecl
 pub mod Division
+pub mod Encodings
+pub mod Prolog

@@ -6,6 +6,7 @@ use mathlib.Core.List.{List}
 use Prim.Native.Nat.{ℕ, _≤_}
 use lib.Dec.{T}
 use lib.ListN.{length, take}
+use Rattle.spec.specs.Basics.{limit}
 use Rattle.spec.specs.Grammar.Characters.{Text}
 use Rattle.spec.specs.Grammar.Division.{Front, Division}
 use Rattle.spec.specs.Grammar.Doctype.{doctypedecl}
@@ -15,7 +16,7 @@ use Rattle.spec.specs.Premise.{bare, premise, promised}
 use Rattle.spec.specs.Reading.Dtd.{check-doctype}
 use Rattle.spec.specs.Reading.Readers.{Reader, nothing}
 use Rattle.spec.specs.Reading.Scan.{Scan, not-opened}
-use Rattle.spec.specs.Reading.Source.{limit, checked, checked-at}
+use Rattle.spec.specs.Reading.Source.{checked, checked-at}
 
 -- a text that may be looked at, and that the grammar derives
 abbrev pub Accepted : Lang → List ℕ → Type 0

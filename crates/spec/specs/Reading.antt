@@ -9,4 +9,6 @@ pub mod Dtd
 pub mod Checks
 pub mod Scan
 pub mod Gate
+pub mod Document
+pub mod Verdict
 pub mod Prolog

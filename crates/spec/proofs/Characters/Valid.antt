@@ -7,13 +7,14 @@ use native.Mathlib.Omega.{arith}
 use lib.Dec.{ltb}
 use lib.ListN.{length, drop, length-append, length-drop}
 use lib.Seq.{drop-append-seam, drop-at}
+use Rattle.spec.specs.Basics.{limit}
 use Rattle.spec.specs.Grammar.Utf8.{scalar, encode}
 use Rattle.spec.specs.Grammar.Languages.{Ch, Star, end, more, any}
 use Rattle.spec.specs.Grammar.Characters.{Text}
 use Rattle.spec.specs.Reading.Refusals.{Refusal, too-long, not-utf8}
 use Rattle.spec.specs.Reading.Utf8.{Point, point, no-point, decode1}
 use Rattle.spec.specs.Reading.Readers.{ok, err, past, char}
-use Rattle.spec.specs.Reading.Source.{utf8, limit, admit}
+use Rattle.spec.specs.Reading.Source.{utf8, admit}
 use Rattle.spec.proofs.Base.Tests.{T→true, true→T, leb-no, leb-false}
 use Rattle.spec.proofs.Characters.Utf8.{Read, decode-read, decode-encode, no-point≢point, point-size}
 use Rattle.spec.proofs.Base.Results.{err-ok, past-err, unless-refused}

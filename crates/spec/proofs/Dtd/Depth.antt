@@ -8,14 +8,14 @@ use Prim.Native.Nat.{ℕ, _+_, _-_, _≤_}
 use native.Mathlib.Omega.{arith}
 use lib.Dec.{T, ltb, eqb}
 use lib.ListN.{length}
-use Rattle.spec.specs.Basics.{pick}
+use Rattle.spec.specs.Basics.{pick, limit}
 use Rattle.spec.specs.Grammar.AppendixB.{appendix-B}
 use Rattle.spec.specs.Grammar.Characters.{Text}
 use Rattle.spec.specs.Grammar.Names.{Dialect, with-groups, with-beyond}
 use Rattle.spec.specs.Reading.Dtd.{check-doctype}
 use Rattle.spec.specs.Reading.Readers.{Result, ok, err, number-of, on-ok}
 use Rattle.spec.specs.Reading.Refusals.{Refusal, too-long, not-utf8, too-deep}
-use Rattle.spec.specs.Reading.Source.{utf8, limit, admit, checked}
+use Rattle.spec.specs.Reading.Source.{utf8, admit, checked}
 use Rattle.spec.proofs.Base.Results.{err-place}
 use Rattle.spec.proofs.Characters.Valid.{utf8-cases, utf8-complete}
 use Rattle.spec.proofs.Dtd.DepthAlike.{other, Alike, met, same}

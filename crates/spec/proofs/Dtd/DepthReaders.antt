@@ -242,7 +242,7 @@ module _ (D : Dialect) (g j : ℕ) (larger : g ≡ D .groups + j) (y : Refusal) 
       }
 
   pub doctype : Like j y (Dtd.check-doctype low) (Dtd.check-doctype high)
-  unfolding Dtd.check-doctype Dtd.parse-internal-subset
+  unfolding Dtd.check-doctype Dtd.doctype-before Dtd.parse-internal-subset
   doctype =
       spaces then name then spaces
       then like-choose _ (external then spaces) like-nothing

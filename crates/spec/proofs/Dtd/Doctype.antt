@@ -14,7 +14,7 @@ use Rattle.spec.specs.Grammar.Characters.{Text, S, S?, space}
 use Rattle.spec.specs.Grammar.Languages.{Lang, lit, ascii, _·_, _∣_, inl, inr, Opt, any, one-of}
 use Rattle.spec.specs.Grammar.Literals.{ExternalID}
 use Rattle.spec.specs.Grammar.Names.{Dialect, Name, AsciiNames}
-use Rattle.spec.specs.Reading.Dtd.{skip-s, parse-external-id, parse-markup-decl, parse-internal-subset, check-doctype}
+use Rattle.spec.specs.Reading.Dtd.{skip-s, parse-external-id, parse-markup-decl, parse-internal-subset, doctype-before, check-doctype}
 use Rattle.spec.specs.Reading.Readers.{ok, Reader, _>>_, nothing, at-end, starts, choose, on, word, while, begins, char}
 use Rattle.spec.specs.Reading.Refusals.{bad-name, unexpected, trailing}
 use Rattle.spec.specs.Reading.Utf8.{decode1}
@@ -159,7 +159,7 @@ module _ (D : Dialect) (A : AsciiNames D) (M : Bool → Lang) (reads-markup : (p
       record { taken = t .taken; rest = t .rest; split = t .split; size = t .size; holds = tail-of (t .taken) (ap (begins (D .part)) (sym x) ∙ n) (t .holds); left = t .left }
 
   pub doctype-reads : Reads (check-doctype D) (S? · Name D · Tail) (Next stop) any
-  unfolding check-doctype
+  unfolding check-doctype doctype-before
   doctype-reads = record {
     sound = sound-seq skip-s _ S? (Name D · Tail) (skip not-space sub-refl .sound)
         (sound-after (λ w. begins (D .part) w ≡ false) (name D) tail-reader (Name D) Tail (name-reads D A .sound) (munch D) tail-sound);
@@ -173,7 +173,7 @@ module _ (D : Dialect) (A : AsciiNames D) (M : Bool → Lang) (reads-markup : (p
       meet u v c t = record { it = sub-at tail-after ends-name (by-signs tt) (u ++ v) (tail-leads u v c t) }
 
   doctype-ends : Ends (check-doctype D)
-  unfolding check-doctype
+  unfolding check-doctype doctype-before
   doctype-ends = ends-seq _ _ (ends-seq _ _ tail-ends)
 
   -- on UTF-8 the reader accepts exactly the texts that the grammar derives

@@ -6,14 +6,15 @@ use native.Mathlib.Omega.{arith}
 use lib.Dec.{ltb}
 use lib.ListN.{length, drop, length-drop}
 use lib.Seq.{drop-drop, drop-nil}
+use Rattle.spec.specs.Basics.{limit}
 use Rattle.spec.specs.Grammar.Languages.{any}
 use Rattle.spec.specs.Grammar.Names.{Dialect}
 use Rattle.spec.specs.Promises.{Stops}
 use Rattle.spec.specs.Reading.Checks.{check-declaration}
-use Rattle.spec.specs.Reading.Dtd.{check-doctype}
+use Rattle.spec.specs.Reading.Dtd.{doctype-before, check-doctype}
 use Rattle.spec.specs.Reading.Readers.{Result, ok, err, Reader, number-of, stop-of, on-ok, throughout, char}
 use Rattle.spec.specs.Reading.Refusals.{bad-name, too-long, not-utf8, trailing}
-use Rattle.spec.specs.Reading.Source.{utf8, limit, admit, checked, checked-at}
+use Rattle.spec.specs.Reading.Source.{utf8, admit, checked, checked-at}
 use Rattle.spec.specs.Reading.Wellformed.{check-chars, check-char-refs, check-text, check-attr-value, check-name}
 use Rattle.spec.proofs.Agreement.Accepts.{zero-ok}
 use Rattle.spec.proofs.Agreement.Whole.{Ends, ends-seq, ends-at-end}
@@ -88,7 +89,7 @@ unfolding check-name
 name-placed D = placed (in-name D) (ends-seq _ _ (ends-at-end bad-name))
 
 pub doctype-placed : (D : Dialect) → Placed (check-doctype D)
-unfolding check-doctype
+unfolding check-doctype doctype-before
 doctype-placed D = placed (in-doctype D) (ends-seq _ _ (ends-seq _ _ (ends-seq _ _ (ends-seq _ _ (ends-seq _ _ (ends-at-end trailing))))))
 
 pub declaration-placed : Placed check-declaration

@@ -266,7 +266,7 @@ module _ (D : Dialect) where
       }
 
   pub in-doctype : Inside (Dtd.check-doctype D)
-  unfolding Dtd.check-doctype Dtd.parse-internal-subset
+  unfolding Dtd.check-doctype Dtd.doctype-before Dtd.parse-internal-subset
   in-doctype =
       spaces then name then spaces
       then in-choose _ (external then spaces) in-nothing

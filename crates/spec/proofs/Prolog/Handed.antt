@@ -14,7 +14,8 @@ use Rattle.spec.specs.Grammar.Names.{Dialect, AsciiNames}
 use Rattle.spec.specs.Grammar.References.{digit}
 use Rattle.spec.specs.Grammar.XmlDecl.{Eq, VersionNum, VersionInfo, enc-char, EncName, EncodingDecl, SDDecl, XMLDecl}
 use Rattle.spec.specs.Promises.{Covered}
-use Rattle.spec.specs.Reading.Prolog.{declaration, doctype, declared, docked, word-at, is-declaration, doctype-end, next-item, later-item}
+use Rattle.spec.specs.Reading.Document.{is-declaration}
+use Rattle.spec.specs.Reading.Prolog.{declaration, doctype, declared, docked, word-at, doctype-end, next-item, later-item}
 use Rattle.spec.specs.Reading.Readers.{starts, run}
 use Rattle.spec.specs.Reading.Places.{at}
 use Rattle.spec.proofs.Agreement.Chars.{begins-ch}

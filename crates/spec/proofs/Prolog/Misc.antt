@@ -17,7 +17,8 @@ use Rattle.spec.specs.Grammar.Doctype.{Misc}
 use Rattle.spec.specs.Grammar.Languages.{ascii, Ch, _·_, _∣_, inl, inr, Star, end, more, Plus, Opt, one-of, among}
 use Rattle.spec.specs.Grammar.Names.{Dialect, PITarget, AsciiNames}
 use Rattle.spec.specs.Reading.Dtd.{reserved}
-use Rattle.spec.specs.Reading.Prolog.{word-at, is-declaration, next-item, later-item}
+use Rattle.spec.specs.Reading.Document.{is-declaration}
+use Rattle.spec.specs.Reading.Prolog.{word-at, next-item, later-item}
 use Rattle.spec.specs.Reading.Readers.{of-point, begins, starts, run}
 use Rattle.spec.specs.Reading.Utf8.{Point, point, no-point, decode1}
 use Rattle.spec.proofs.Agreement.Chars.{ch-some, sign, kind-encode}

@@ -9,7 +9,8 @@ use lib.ListN.{length, drop, length-drop}
 use Rattle.spec.specs.Basics.{pick}
 use Rattle.spec.specs.Grammar.Characters.{space}
 use Rattle.spec.specs.Grammar.Languages.{ascii}
-use Rattle.spec.specs.Reading.Prolog.{Item, declaration, doctype, other, cut-off, cut-doctype, word-at, doctype-end, is-declaration, declared, docked, onward, item-fuel, next-item, later-item}
+use Rattle.spec.specs.Reading.Document.{is-declaration}
+use Rattle.spec.specs.Reading.Prolog.{Item, declaration, doctype, other, cut-off, cut-doctype, word-at, doctype-end, declared, docked, onward, item-fuel, next-item, later-item}
 use Rattle.spec.specs.Reading.Readers.{starts, run}
 use Rattle.spec.specs.Reading.Places.{Place, at, nowhere}
 use Rattle.spec.proofs.Base.Tests.{leb-true, leb-yes}

@@ -238,10 +238,13 @@ module _ (D : Dialect) where
   unfoldable pub parse-internal-subset : Reader
   parse-internal-subset w = subset-fuel (suc (length w)) false w
 
-  -- check_doctype
-  unfoldable pub check-doctype : Reader
-  check-doctype =
+  -- check_doctype, up to what ends it: the text's end in check_doctype, the '>' in a document
+  unfoldable pub doctype-before : Reader → Reader
+  doctype-before end =
       skip-s >> name D >> skip-s
       >> choose (λ w. starts (ascii "SYSTEM") w || starts (ascii "PUBLIC") w) (parse-external-id >> skip-s) nothing
       >> on "[" (word "[" unexpected >> parse-internal-subset >> skip-s) nothing
-      >> at-end trailing
+      >> end
+
+  unfoldable pub check-doctype : Reader
+  check-doctype = doctype-before (at-end trailing)

@@ -1,6 +1,5 @@
 -- The prolog of a document, taken apart. This is ours, not the Rust's, whose tokenizer does it: white space, comments and instructions
 -- are passed over, and what is looked for is the XML declaration and the DOCTYPE. Assumes nothing.
-use mathlib.Core.Bool.{Bool, _&&_}
 use mathlib.Core.List.{List}
 use Prim.Native.Nat.{ℕ, zero, suc, _+_}
 use Prim.Native.String.{String}
@@ -9,7 +8,8 @@ use lib.ListN.{length, drop}
 use Rattle.spec.specs.Basics.{pick}
 use Rattle.spec.specs.Grammar.Languages.{ascii, one-of}
 use Rattle.spec.specs.Grammar.Characters.{space}
-use Rattle.spec.specs.Reading.Readers.{starts, run, begins, contains, before}
+use Rattle.spec.specs.Reading.Document.{is-declaration}
+use Rattle.spec.specs.Reading.Readers.{starts, run, contains, before}
 use Rattle.spec.specs.Reading.Places.{Place, at, nowhere, later, outside}
 use Rattle.spec.specs.Reading.Scan.{subset-end}
 
@@ -50,10 +50,6 @@ after-head w (at i) = pick (starts (ascii ">") (drop i w)) (at i) (after-subset 
 
 unfoldable pub doctype-end : List ℕ → Place
 doctype-end w = after-head w (head-end w)
-
--- "<?xml" and then white space or '?': not an instruction whose target only begins so
-unfoldable pub is-declaration : List ℕ → Bool
-is-declaration w = starts (ascii "<?xml") w && begins (one-of " \t\r\n?") (drop 5 w)
 
 -- what begins at a place, its text n bytes long; or it does not end
 abbrev pub declared : ℕ → Place → Item

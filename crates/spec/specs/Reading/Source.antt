@@ -3,7 +3,7 @@ use mathlib.Core.List.{List}
 use Prim.Native.Nat.{ℕ}
 use lib.Dec.{ltb}
 use lib.ListN.{length}
-use Rattle.spec.specs.Basics.{pick}
+use Rattle.spec.specs.Basics.{pick, limit}
 use Rattle.spec.specs.Grammar.Languages.{any}
 use Rattle.spec.specs.Reading.Refusals.{too-long, not-utf8}
 use Rattle.spec.specs.Reading.Readers.{err, Reader, number-of, stop-of, on-ok, char, throughout}
@@ -11,10 +11,6 @@ use Rattle.spec.specs.Reading.Readers.{err, Reader, number-of, stop-of, 
 -- code points from the first byte to the last
 unfoldable pub utf8 : Reader
 utf8 = throughout (char any not-utf8)
-
--- the longest text that is looked at
-abbrev pub limit : ℕ
-limit = 1_048_576
 
 -- 1 before 2
 unfoldable pub admit : Reader

@@ -1,12 +1,12 @@
 -- `dtd::doctype::parse_doctype` meets its contract. Assumes nothing.
-use Rattle.spec.specs.Reading.Dtd.{check-doctype}
+use Rattle.spec.specs.Reading.Dtd.{doctype-before, check-doctype}
 use Rattle.dtd.specs.Parts.{id-part, subset-part}
 use Rattle.dtd.proofs.Whole.{parts-read}
 use Rattle.dtd.proofs.doctype.parse_doctype.Statement.{statement}
 use Rattle.dtd.proofs.doctype.parse_doctype.Tie as tie
 
 pub parse-doctype-spec : {M : Type 1} → statement M
-unfolding check-doctype id-part subset-part
+unfolding check-doctype doctype-before id-part subset-part
 parse-doctype-spec =
     tie.close
     (tie.spec
