@@ -46,7 +46,7 @@ pub plus-star : {L : Lang} {u : List ℕ} → Plus L u → Star L u
 plus-star c = more (c .left) (c .right) (c .split) (c .first) (c .second)
 
 -- the code point that bytes begin with
-read-point : (c : ℕ) (v : List ℕ) (d : ℕ) (x : List ℕ) → scalar c ≡ true → scalar d ≡ true → encode c ++ v ≡ encode d ++ x → c ≡ d
+pub read-point : (c : ℕ) (v : List ℕ) (d : ℕ) (x : List ℕ) → scalar c ≡ true → scalar d ≡ true → encode c ++ v ≡ encode d ++ x → c ≡ d
 read-point c v d x s t e =
     let a : point c (length (encode c)) ≡ point d (length (encode d)) = sym (decode-encode c v s) ∙ ap decode1 e ∙ decode-encode d x t in
     cc

@@ -39,7 +39,7 @@ module _ {test : List ℕ → Bool} {L : Lang} (x : Value test L) where
     free = free;
   }
 
-  eq-quoted-reads : Reads (parse-eq-quoted test) (Eq · Quoted L L) (Next any) (space ∪ first-of "=")
+  pub eq-quoted-reads : Reads (parse-eq-quoted test) (Eq · Quoted L L) (Next any) (space ∪ first-of "=")
   unfolding parse-eq-quoted Eq
   eq-quoted-reads =
       as-lang (back (assoc then cat₂ assoc))
@@ -49,20 +49,20 @@ module _ {test : List ℕ → Bool} {L : Lang} (x : Value test L) where
 
 -- What follows an optional part may begin with white space, as the part does: what settles whether the part is there is the sign
 -- after the white space.
-record Then (g : Class) (v : List ℕ) : Type 0 where
-  sign : T (g (kind (drop (run space v) v)))
+pub record Then (g : Class) (v : List ℕ) : Type 0 where
+  pub sign : T (g (kind (drop (run space v) v)))
 
-then-past : {g : Class} → Sub g not-space → (x y : List ℕ) → S? x → T (g (kind y)) → Then g (x ++ y)
+pub then-past : {g : Class} → Sub g not-space → (x y : List ℕ) → S? x → T (g (kind y)) → Then g (x ++ y)
 then-past {g} h x y s t = record { sign = subst (λ (z : List ℕ). T (g (kind z))) (sym (past-space h x y s t)) t }
 
 then-sub : {p q : Class} → ((k : ℕ) → T (p k) → T (q k)) → {v : List ℕ} → Then p v → Then q v
 then-sub f {v} t = record { sign = f (kind (drop (run space v) v)) (t .sign) }
 
 -- the test of pseudo_attr: the name is next after white space
-abbrev ahead : String → List ℕ → Bool
+abbrev pub ahead : String → List ℕ → Bool
 ahead name w = starts (ascii name) (drop (run space w) w)
 
-missed : (name : String) (g : Class) → T (clash (ascii name) [] g) → (u v : List ℕ) → u ≡ [] → Then g v → ahead name (u ++ v) ≡ false
+pub missed : (name : String) (g : Class) → T (clash (ascii name) [] g) → (u v : List ℕ) → u ≡ [] → Then g v → ahead name (u ++ v) ≡ false
 missed name g c u v e t = ap (λ (z : List ℕ). ahead name (z ++ v)) e ∙ starts-clash (ascii name) [] g (drop (run space v) v) c (t .sign)
 
 -- white space, a name, and whatever belongs to it
@@ -70,11 +70,11 @@ module _ (name : String) (good : T (plain (ascii name))) (dark : Sub (first-of n
   named : (u v : List ℕ) → (lit name · K) u → T (first-of name (kind (u ++ v)))
   named u v l = subst (λ (z : List ℕ). T (first-of name (kind z))) (sym (cat-before l v)) (wd name unexpected good .leads (l .left) (l .right ++ v) (l .first) (record { it = tt }))
 
-  found : (u v : List ℕ) → (S · lit name · K) u → ahead name (u ++ v) ≡ true
+  pub found : (u v : List ℕ) → (S · lit name · K) u → ahead name (u ++ v) ≡ true
   found u v l = rw (cat-before l v, past-space dark (l .left) (l .right ++ v) (s-s? (l .left) (l .first)) (named (l .right) v (l .second))) (starts-lit name v (l .second))
 
   -- with it, or without it, in front of what may follow: after the white space stands its name's first sign, or the follower's
-  met : (g : Class) → {M F : Lang} → ((u v : List ℕ) → M u → F v → Then g (u ++ v))
+  pub met : (g : Class) → {M F : Lang} → ((u v : List ℕ) → M u → F v → Then g (u ++ v))
       → (u v : List ℕ) → (Opt (S · lit name · K) · M) u → F v → Then (first-of name ∪ g) (u ++ v)
   met g {M} {F} after u v c t = subst (Then (first-of name ∪ g)) (sym (cat-before c v)) (go (c .left) (c .first))
     where

@@ -10,6 +10,7 @@ use Rattle.spec.specs.Grammar.Declarations.{PI, Comment, element-body, a
 use Rattle.spec.specs.Grammar.Doctype.{intSubset, doctypedecl}
 use Rattle.spec.specs.Grammar.Languages.{Lang, lit, ascii, _·_, _∣_, inl, inr, any}
 use Rattle.spec.specs.Grammar.Names.{Dialect, AsciiNames}
+use Rattle.spec.specs.Reading.Document.{read-doctype-text}
 use Rattle.spec.specs.Reading.Dtd.{parse-element-decl, finish-decl, parse-markup-decl, check-doctype}
 use Rattle.spec.specs.Reading.Readers.{Reader, _>>_, starts, on, word}
 use Rattle.spec.specs.Reading.Refusals.{unexpected, trailing}
@@ -24,17 +25,17 @@ use Rattle.spec.proofs.Dtd.Attlists.{attlist-whole}
 use Rattle.spec.proofs.Dtd.Bodies.{finish-reads}
 use Rattle.spec.proofs.Dtd.Comments.{comment-reads}
 use Rattle.spec.proofs.Dtd.ContentModels.{element-reads}
-use Rattle.spec.proofs.Dtd.Doctype.{agrees}
+use Rattle.spec.proofs.Dtd.Doctype.{agrees, closed-reads}
 use Rattle.spec.proofs.Dtd.Entities.{entity-whole}
 use Rattle.spec.proofs.Dtd.Instructions.{pi-reads}
 use Rattle.spec.proofs.Dtd.Notations.{notation-whole}
 use Rattle.spec.proofs.Dtd.Tame.{within-attlist, within-entity, within-notation}
 
 -- a language that never begins with the word
-abbrev Never : String → Lang → Type 0
+abbrev pub Never : String → Lang → Type 0
 Never s L = (u v : List ℕ) → L u → starts (ascii s) (u ++ v) ≡ false
 
-never-lit : (s t : String) {K : Lang} → T (clash (ascii s) (ascii t) any) → Never s (lit t · K)
+pub never-lit : (s t : String) {K : Lang} → T (clash (ascii s) (ascii t) any) → Never s (lit t · K)
 never-lit s t c u v l =
     ap (starts (ascii s)) (ap (λ (z : List ℕ). z ++ v) (l .split ∙ ap (λ (z : List ℕ). z ++ l .right) (l .first)) ∙ append-assoc (ascii t) (l .right) v)
     ∙ starts-clash (ascii s) (ascii t) any (l .right ++ v) c tt
@@ -79,3 +80,8 @@ module _ (D : Dialect) (A : AsciiNames D) where
   pub doctype-whole : Whole (check-doctype D) (doctypedecl D)
   unfolding doctypedecl intSubset
   doctype-whole = agrees D A (markupdecl D) markup-reads
+
+  -- and the parts of the DOCTYPE before a '>'
+  pub doctype-closed : Reads (read-doctype-text D) (doctypedecl D · lit ">") (Next any) any
+  unfolding doctypedecl intSubset
+  doctype-closed = closed-reads D A (markupdecl D) markup-reads

@@ -24,13 +24,13 @@ texts-delimited =
 texts-within : {L : Lang} → Within L → Texts L
 texts-within i u l = texts-delimited u (tame-delimited (i u l))
 
-texts-comment : Texts Comment
+pub texts-comment : Texts Comment
 unfolding Comment
 texts-comment =
     texts-cat (texts-lit "<!--" tt) (texts-cat (texts-star (texts-either (texts-ch (none-of "-")) (texts-cat (texts-lit "-" tt) (texts-ch (none-of "-"))))) (texts-cat (texts-either (texts-lit "-" tt) texts-none) (texts-lit "-->" tt)))
 
 module _ (D : Dialect) (A : AsciiNames D) where
-  texts-instruction : Texts (PI D)
+  pub texts-instruction : Texts (PI D)
   unfolding PI PITarget NCName Text
   texts-instruction = texts-cat (texts-lit "<?" tt) (texts-cat (λ u x. texts-name D u (x .0 .0)) (texts-cat (texts-either (texts-cat texts-s (λ u x. x .0)) texts-none) (texts-lit "?>" tt)))
 

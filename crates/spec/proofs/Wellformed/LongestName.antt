@@ -139,11 +139,10 @@ module _ (p : ℕ → Bool) (n : Refusal) where
   chars-turn w k e = while-turn (begins p) (char p n) begins-end (λ x j y e. char-size p n x j e .0) w k (begins-ok p n w k e) e
 
   -- a run is never refused, and it is the longest
-  Run : List ℕ → Type 0
+  abbrev pub Run : List ℕ → Type 0
   Run w = (k : ℕ) × ((chars p n w ≡ ok k) × Takes (Star (Ch p)) w k)
 
   turn : (w : List ℕ) → ((k : ℕ) → 0 < k → k ≤ length w → Run (drop k w)) → Run w
-  unfolding Run
   turn w next = go (front p n w)
     where
       go : Front p n w → Run w
@@ -178,7 +177,7 @@ module _ (p : ℕ → Bool) (n : Refusal) where
   chars-to zero w h = turn w (λ k l g. absurd (omega arith))
   chars-to (suc d) w h = turn w (λ k l g. chars-to d (drop k w) (omega (arith, length-drop k w)))
 
-  chars-run : (w : List ℕ) → Run w
+  pub chars-run : (w : List ℕ) → Run w
   chars-run w = chars-to (length w) w (omega arith)
 
 -- a name stands first, or none does
@@ -189,11 +188,11 @@ pub data Named (D : Dialect) (w : List ℕ) : Type 0 where
 module _ (D : Dialect) (w : List ℕ) where
   -- [7] Nmtoken's loop is never refused, and takes the longest
   pub parts-ok : parts D w ≡ ok (taken (parts D w))
-  unfolding parts Run
+  unfolding parts
   parts-ok = let (k, (e, t)) = chars-run (D .part) bad-name w in rw e
 
   pub parts-takes : Takes (Star (Ch (D .part))) w (taken (parts D w))
-  unfolding parts Run
+  unfolding parts
   parts-takes = let (k, (e, t)) = chars-run (D .part) bad-name w in rw e t
 
   -- [5] Name, by its first character
@@ -206,7 +205,7 @@ module _ (D : Dialect) (w : List ℕ) where
   name-none e = rw e
 
   pub named : Named D w
-  unfolding Name parts Run
+  unfolding Name parts
   named = go (front (D .start) bad-name w)
     where
       go : Front (D .start) bad-name w → Named D w
