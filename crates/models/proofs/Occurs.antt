@@ -17,7 +17,7 @@ use Rattle.spec.proofs.Agreement.Runs.{among-ascii}
 use Rattle.spec.proofs.Base.Tests.{true→T}
 use Rattle.spec.proofs.Base.Places.{drop-at, byte-in, front-at}
 use Rattle.spec.proofs.Characters.Utf8.{decode-1}
-use Rattle.spec.proofs.Prolog.Misc.{begins-sign}
+use Rattle.spec.proofs.Agreement.FirstSign.{begins-sign}
 use Rattle.error.specs.Read.{said, read}
 use Rattle.error.specs.declared.Answer.the-variants.{At}
 

@@ -24,7 +24,7 @@ use Rattle.spec.specs.Reading.Places.{Place, at, nowhere, later}
 use Rattle.spec.proofs.Agreement.Words.{starts-split}
 use Rattle.spec.proofs.Base.Places.{drop-end, front-at}
 use Rattle.spec.proofs.Base.Tests.{and-left, decide}
-use Rattle.spec.proofs.Prolog.Misc.{begins-sign}
+use Rattle.spec.proofs.Agreement.FirstSign.{begins-sign}
 use Rattle.spec.proofs.Prolog.Turns.{later-later-item, later-no-item, next-space, next-comment, next-cut-comment, next-declaration, next-instruction, next-cut-instruction, next-doctype, next-other}
 use Rattle.search.specs.FirstPlace.{first-place}
 use Rattle.search.specs.Places.{found, place-from}

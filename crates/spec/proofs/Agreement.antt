@@ -8,6 +8,7 @@ pub mod Choices
 pub mod UpTo
 pub mod Loops
 pub mod Runs
+pub mod FirstSign
 pub mod Whole
 pub mod Algebra
 pub mod Texts

@@ -9,4 +9,5 @@ pub mod Rows
 pub mod Conditions
 pub mod Division
 pub mod Prolog
+pub mod Document
 pub mod Demands

@@ -16,7 +16,7 @@ use Rattle.spec.specs.Grammar.Literals.{ExternalID}
 use Rattle.spec.specs.Grammar.Names.{Dialect, Name, AsciiNames}
 use Rattle.spec.specs.Reading.Document.{read-doctype-text}
 use Rattle.spec.specs.Reading.Dtd.{skip-s, parse-external-id, parse-markup-decl, parse-internal-subset, doctype-before, check-doctype}
-use Rattle.spec.specs.Reading.Readers.{ok, Reader, _>>_, nothing, at-end, starts, choose, on, word, while, begins, char}
+use Rattle.spec.specs.Reading.Readers.{ok, Reader, _>>_, nothing, starts, choose, on, word, while, begins, char}
 use Rattle.spec.specs.Reading.Refusals.{bad-name, unexpected, trailing}
 use Rattle.spec.specs.Reading.Utf8.{decode1}
 use Rattle.spec.specs.Reading.Wellformed.{parts, name}
