@@ -1,2 +1,7 @@
 -- The beginning of a document: the order of reading accepts exactly the documents that begin as the grammar says.
 pub mod Declared
+pub mod Declaration
+pub mod Misc
+pub mod Doctype
+pub mod Prolog
+pub mod Tag
