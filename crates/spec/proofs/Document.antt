@@ -5,3 +5,6 @@ pub mod Misc
 pub mod Doctype
 pub mod Prolog
 pub mod Tag
+pub mod Legal
+pub mod Agrees
+pub mod Verdict
