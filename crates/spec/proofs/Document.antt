@@ -8,3 +8,5 @@ pub mod Tag
 pub mod Legal
 pub mod Agrees
 pub mod Verdict
+pub mod Encoding
+pub mod Right
