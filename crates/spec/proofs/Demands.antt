@@ -2,20 +2,22 @@
 -- is what the prover asks of every function: it ends, reads inside its texts and wraps no number, on all inputs.) Assumes nothing.
 use mathlib.Core.Path.{_≡_, refl}
 use mathlib.Core.Logic.{_↔_, _⊎_}
-use mathlib.Core.Bool.{true, false, _&&_}
+use mathlib.Core.Bool.{Bool, true, false, _&&_}
 use mathlib.Core.List.{List, _∷_, _++_}
 use Prim.Native.Nat.{ℕ, _+_, _≤_, _<_}
 use lib.Dec.{eqb}
 use lib.ListN.{length, take, drop}
 use Rattle.spec.specs.Grammar.AppendixB.{appendix-B}
-use Rattle.spec.specs.Grammar.Characters.{Chars}
+use Rattle.spec.specs.Grammar.Characters.{xml-char, Chars}
 use Rattle.spec.specs.Grammar.Division.{Front, Division}
 use Rattle.spec.specs.Grammar.Doctype.{doctypedecl, Misc}
 use Rattle.spec.specs.Grammar.Names.{Dialect, Name, NCName, with-groups, with-beyond, AsciiNames}
+use Rattle.spec.specs.Grammar.Prolog.{Begins, doctype-of, encoding-of, Document}
 use Rattle.spec.specs.Grammar.References.{Referred, CharData, AttText}
 use Rattle.spec.specs.Grammar.XmlDecl.{XMLDecl}
 use Rattle.spec.specs.Promises.{Checks, Stops, Tells, Covered, expected}
 use Rattle.spec.specs.Reading.Checks.{check-declaration, is-ncname}
+use Rattle.spec.specs.Reading.Document.{legal-length}
 use Rattle.spec.specs.Reading.Dtd.{check-doctype}
 use Rattle.spec.specs.Reading.Prolog.{declaration, doctype, doctype-end, next-item}
 use Rattle.spec.specs.Reading.Readers.{ok, err, Reader, nothing}
@@ -23,16 +25,21 @@ use Rattle.spec.specs.Reading.Refusals.{Refusal}
 use Rattle.spec.specs.Reading.Places.{at}
 use Rattle.spec.specs.Reading.Scan.{scan}
 use Rattle.spec.specs.Reading.Source.{admit, checked, checked-at}
+use Rattle.spec.specs.Reading.Verdict.{accepted, number-in, encoding-read, mark-length, unmarked, moved, check-document}
 use Rattle.spec.specs.Reading.Wellformed.{illegal-here, check-chars, check-char-refs, check-text, check-attr-value, check-name}
 use Rattle.spec.specs.Rows.{All, Numbered, rows, Met, spots}
 use Rattle.spec.specs.Conditions.{Sided, samples, Passed, pieces, Limited, sizes, Ascii, alphabets}
-use Rattle.spec.specs.Grammar.Languages.{Lang, ascii, Star}
+use Rattle.spec.specs.Grammar.Languages.{Lang, ascii, Ch, Star}
 use Rattle.spec.proofs.Agreement.Accepts.{promise, tells}
 use Rattle.spec.proofs.Characters.AppendixB.{appendix-B-ascii}
 use Rattle.spec.proofs.Checks.NCNames.{ncname-decides}
 use Rattle.spec.proofs.Checks.XmlDecl.{declaration-agrees}
 use Rattle.spec.proofs.Division.Places.{divided, apart, one-division}
 use Rattle.spec.proofs.Division.Promised.{cuts-covered}
+use Rattle.spec.proofs.Document.Agrees.{one-prolog}
+use Rattle.spec.proofs.Document.Encoding.{encoding-right}
+use Rattle.spec.proofs.Document.Legal.{legal-takes}
+use Rattle.spec.proofs.Document.Whole.{document-right, parts-right, check-stays}
 use Rattle.spec.proofs.Dtd.Depth.{met-exactly-B, deeper-same-B}
 use Rattle.spec.proofs.Dtd.Texts.{doctype-agrees}
 use Rattle.spec.proofs.Inside.Chars.{illegal-there, none-before}
@@ -41,6 +48,7 @@ use Rattle.spec.proofs.Prolog.Handed.{doctype-handed, declaration-hande
 use Rattle.spec.proofs.Prolog.Heads.{doctype-ends}
 use Rattle.spec.proofs.Rows
 use Rattle.spec.proofs.Conditions
+use Rattle.spec.proofs.Wellformed.LongestName.{Takes}
 use Rattle.spec.proofs.Wellformed.Checks.{chars-agree, char-refs-agree, text-agree, attr-value-agree, name-agrees}
 
 -- Demand 2: on every text the order of reading, with 1 and 2 in front, answers 0 exactly for what the grammar derives.
@@ -168,3 +176,28 @@ doctype-handed-over = doctype-handed appendix-B appendix-B-ascii
 -- Of an XML declaration it hands over what stands between "<?" and "?>".
 pub declaration-handed-over : (t r : List ℕ) → XMLDecl t → next-item (ascii "<?" ++ (t ++ (ascii "?>" ++ r))) ≡ declaration 2 (2 + length t)
 declaration-handed-over = declaration-handed
+
+-- A whole document. It is accepted exactly where, after a byte order mark if there is one, it begins with a prolog that the grammar derives
+-- and with '<' and a Name, in characters that its encoding has in common with UTF-8.
+pub document-accepted : (whole : Bool) (w : List ℕ) → (number-in (check-document appendix-B whole w) ≡ 0) ↔ Document appendix-B (unmarked w)
+document-accepted = document-right appendix-B appendix-B-ascii
+
+-- Then the verdict tells the grammar's prolog and the grammar's DOCTYPE; the encoding that is found is the grammar's; and there is but one
+-- prolog.
+pub document-parts : (whole : Bool) (w : List ℕ) (d : Document appendix-B (unmarked w))
+    → check-document appendix-B whole w ≡ moved (mark-length w) (accepted (length (d .begins .front)) (doctype-of appendix-B (d .begins)))
+document-parts = parts-right appendix-B appendix-B-ascii
+
+pub encoding-found : (w : List ℕ) (b : Begins appendix-B xml-char w) → encoding-read w ≡ encoding-of appendix-B b
+encoding-found = encoding-right appendix-B appendix-B-ascii
+
+pub prolog-once : (w : List ℕ) (a b : Begins appendix-B xml-char w) → a .front ≡ b .front
+prolog-once = one-prolog appendix-B appendix-B-ascii xml-char
+
+-- What is accepted of a beginning is accepted of the whole, whatever follows, and the verdict is the same.
+pub document-stays : (part whole : Bool) (w v : List ℕ) → number-in (check-document appendix-B part w) ≡ 0 → check-document appendix-B whole (w ++ v) ≡ check-document appendix-B part w
+document-stays = check-stays appendix-B appendix-B-ascii
+
+-- What is read of a text, in characters of a class, is the longest front part that consists of them.
+pub legal-longest : (p : ℕ → Bool) (w : List ℕ) → Takes (Star (Ch p)) w (legal-length p w)
+legal-longest = legal-takes

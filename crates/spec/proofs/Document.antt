@@ -10,3 +10,4 @@ pub mod Agrees
 pub mod Verdict
 pub mod Encoding
 pub mod Right
+pub mod Whole
