@@ -11,3 +11,4 @@ pub mod Verdict
 pub mod Encoding
 pub mod Right
 pub mod Whole
+pub mod Within

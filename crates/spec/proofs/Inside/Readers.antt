@@ -27,11 +27,11 @@ use Rattle.spec.proofs.Dtd.Bodies.{body-at}
 use Rattle.spec.proofs.Inside.Ways.{Inside, stop-on, stop-pick, before-most, take-most, _then_, in-nothing, in-byte, in-refuse, in-refuse-at, in-one, in-end, in-pick, in-choose, in-on, in-word, in-while, in-throughout, in-required, in-char, in-up-to}
 
 -- without names
-spaces : Inside Dtd.skip-s
+pub spaces : Inside Dtd.skip-s
 unfolding Dtd.skip-s
 spaces = record { inside = λ w. run-within space w }
 
-some-space : Inside Dtd.require-s
+pub some-space : Inside Dtd.require-s
 unfolding Dtd.require-s
 some-space = in-required _ spaces
 
@@ -91,7 +91,7 @@ att-value : Inside Dtd.check-att-value
 unfolding Dtd.check-att-value
 att-value = in-choose _ (in-refuse-at "<" _) in-char-refs
 
-comment : Inside Dtd.parse-comment
+pub comment : Inside Dtd.parse-comment
 unfolding Dtd.parse-comment Dtd.check-comment
 comment = in-word "<!--" _ then in-up-to "-->" _ (in-choose _ (in-refuse-at "--" _) in-nothing)
 
@@ -155,7 +155,7 @@ module _ (D : Dialect) where
   unfolding Wellformed.parts
   parts = in-while _ (in-char (D .part) _)
 
-  name : Inside (Wellformed.name D)
+  pub name : Inside (Wellformed.name D)
   unfolding Wellformed.name
   name = in-char (D .start) _ then parts
 
@@ -183,7 +183,7 @@ module _ (D : Dialect) where
         (λ _. stop-pick (length t) (Dtd.reserved t) (err reserved-target 0) (ok 0) (λ _. omega arith) (λ _. omega arith)));
   }
 
-  pi : Inside (Dtd.parse-pi D)
+  pub pi : Inside (Dtd.parse-pi D)
   unfolding Dtd.parse-pi Dtd.check-pi
   pi = in-word "<?" _ then in-up-to "?>" _ (record { inside = λ w. let z = target .inside (take (run (none-of " \t\r\n") w) w) in let y = take-most (run (none-of " \t\r\n") w) w in omega arith })
 
@@ -265,16 +265,21 @@ module _ (D : Dialect) where
             (in-end _ then in-refuse _)))) .inside;
       }
 
-  pub in-doctype : Inside (Dtd.check-doctype D)
-  unfolding Dtd.check-doctype Dtd.doctype-before Dtd.parse-internal-subset
-  in-doctype =
+  -- a DOCTYPE's text, whatever ends it
+  pub in-before : {end : Reader} → Inside end → Inside (Dtd.doctype-before D end)
+  unfolding Dtd.doctype-before Dtd.parse-internal-subset
+  in-before a =
       spaces then name then spaces
       then in-choose _ (external then spaces) in-nothing
       then in-on "[" (in-word "[" _ then record { inside = λ w. subset (suc (length w)) false .inside w } then spaces) in-nothing
-      then in-end _
+      then a
+
+  pub in-doctype : Inside (Dtd.check-doctype D)
+  unfolding Dtd.check-doctype
+  in-doctype = in-before (in-end _)
 
 -- of an XML declaration
-eq-quoted : (test : List ℕ → Bool) → Inside (Checks.parse-eq-quoted test)
+pub eq-quoted : (test : List ℕ → Bool) → Inside (Checks.parse-eq-quoted test)
 unfolding Checks.parse-eq-quoted Checks.valued
 eq-quoted test = spaces then in-word "=" _ then spaces then quoted (in-choose test in-nothing (in-refuse _))
 
