@@ -12,3 +12,4 @@ pub mod Encoding
 pub mod Right
 pub mod Whole
 pub mod Within
+pub mod Located
