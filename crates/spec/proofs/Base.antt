@@ -3,6 +3,7 @@ pub mod Tests
 pub mod Tables
 pub mod Places
 pub mod Results
+pub mod Sequences
 pub mod Loops
 pub mod Somes
 pub mod Outside

@@ -4,7 +4,7 @@ use mathlib.Core.Path.{_≡_, refl}
 use mathlib.Core.Logic.{_↔_, _⊎_}
 use mathlib.Core.Bool.{Bool, true, false, _&&_}
 use mathlib.Core.List.{List, _∷_, _++_}
-use Prim.Native.Nat.{ℕ, _+_, _≤_, _<_}
+use Prim.Native.Nat.{ℕ, _+_, _-_, _≤_, _<_}
 use lib.Dec.{eqb}
 use lib.ListN.{length, take, drop}
 use Rattle.spec.specs.Grammar.AppendixB.{appendix-B}
@@ -12,7 +12,7 @@ use Rattle.spec.specs.Grammar.Characters.{xml-char, Chars}
 use Rattle.spec.specs.Grammar.Division.{Front, Division}
 use Rattle.spec.specs.Grammar.Doctype.{doctypedecl, Misc}
 use Rattle.spec.specs.Grammar.Names.{Dialect, Name, NCName, with-groups, with-beyond, AsciiNames}
-use Rattle.spec.specs.Grammar.Prolog.{Begins, doctype-of, encoding-of, Document}
+use Rattle.spec.specs.Grammar.Prolog.{from-to, Begins, doctype-of, encoding-of, Document}
 use Rattle.spec.specs.Grammar.References.{Referred, CharData, AttText}
 use Rattle.spec.specs.Grammar.XmlDecl.{XMLDecl}
 use Rattle.spec.specs.Promises.{Checks, Stops, Tells, Covered, expected}
@@ -25,7 +25,7 @@ use Rattle.spec.specs.Reading.Refusals.{Refusal}
 use Rattle.spec.specs.Reading.Places.{at}
 use Rattle.spec.specs.Reading.Scan.{scan}
 use Rattle.spec.specs.Reading.Source.{admit, checked, checked-at}
-use Rattle.spec.specs.Reading.Verdict.{accepted, number-in, encoding-read, mark-length, unmarked, moved, check-document}
+use Rattle.spec.specs.Reading.Verdict.{accepted, number-in, place-in, opened-in, doctype-in, encoding-read, mark-length, unmarked, moved, check-document}
 use Rattle.spec.specs.Reading.Wellformed.{illegal-here, check-chars, check-char-refs, check-text, check-attr-value, check-name}
 use Rattle.spec.specs.Rows.{All, Numbered, rows, Met, spots}
 use Rattle.spec.specs.Conditions.{Sided, samples, Passed, pieces, Limited, sizes, Ascii, alphabets}
@@ -39,6 +39,8 @@ use Rattle.spec.proofs.Division.Promised.{cuts-covered}
 use Rattle.spec.proofs.Document.Agrees.{one-prolog}
 use Rattle.spec.proofs.Document.Encoding.{encoding-right}
 use Rattle.spec.proofs.Document.Legal.{legal-takes}
+use Rattle.spec.proofs.Document.Located.{check-lies}
+use Rattle.spec.proofs.Document.Told.{told-inside}
 use Rattle.spec.proofs.Document.Whole.{document-right, parts-right, check-stays}
 use Rattle.spec.proofs.Dtd.Depth.{met-exactly-B, deeper-same-B}
 use Rattle.spec.proofs.Dtd.Texts.{doctype-agrees}
@@ -201,3 +203,11 @@ document-stays = check-stays appendix-B appendix-B-ascii
 -- What is read of a text, in characters of a class, is the longest front part that consists of them.
 pub legal-longest : (p : ℕ → Bool) (w : List ℕ) → Takes (Star (Ch p)) w (legal-length p w)
 legal-longest = legal-takes
+
+-- The place that a verdict tells lies within the text, and what does not end was opened there or before.
+pub document-within : (whole : Bool) (w : List ℕ) → (place-in (check-document appendix-B whole w) ≤ length w) × (opened-in (check-document appendix-B whole w) ≤ place-in (check-document appendix-B whole w))
+document-within = check-lies appendix-B
+
+-- The DOCTYPE's text that it tells lies within the text, before its last byte at the latest, and the grammar derives it.
+pub doctype-inside : (whole : Bool) (w : List ℕ) (i j : ℕ) → doctype-in (check-document appendix-B whole w) ≡ from-to i j → (i ≤ j) × ((j < length w) × doctypedecl appendix-B (take (j - i) (drop i w)))
+doctype-inside = told-inside appendix-B appendix-B-ascii

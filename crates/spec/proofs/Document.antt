@@ -13,3 +13,4 @@ pub mod Right
 pub mod Whole
 pub mod Within
 pub mod Located
+pub mod Told

@@ -50,7 +50,7 @@ module _ {test : List ℕ → Bool} {L : Lang} (x : Value test L) where
 -- What follows an optional part may begin with white space, as the part does: what settles whether the part is there is the sign
 -- after the white space.
 pub record Then (g : Class) (v : List ℕ) : Type 0 where
-  pub sign : T (g (kind (drop (run space v) v)))
+  sign : T (g (kind (drop (run space v) v)))
 
 pub then-past : {g : Class} → Sub g not-space → (x y : List ℕ) → S? x → T (g (kind y)) → Then g (x ++ y)
 then-past {g} h x y s t = record { sign = subst (λ (z : List ℕ). T (g (kind z))) (sym (past-space h x y s t)) t }
