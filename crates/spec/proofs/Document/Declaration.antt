@@ -31,11 +31,13 @@ marked-reads =
     (up-to-reads "?>" unterminated check-declaration XMLDecl 63 (62 ∷ []) refl tt (λ u v j tu h e. declaration-agrees .sound u j tu e) (declaration-agrees .complete)
     (λ u v x. first-after 63 (62 ∷ []) refl u v (avoids-contains 63 (62 ∷ []) u (unasked u x))))
 
+-- it is told from what follows by how it begins
 pub marked-there : (u v : List ℕ) → Marked u → is-declaration (u ++ v) ≡ true
 marked-there u v l =
     let t : List ℕ = l .second .left in
     ap (λ (z : List ℕ). is-declaration (z ++ v)) (between "<?" "?>" l) ∙ ap (λ (z : List ℕ). is-declaration (60 ∷ 63 ∷ z)) (append-assoc t (63 ∷ 62 ∷ []) v) ∙ begins-declared t (63 ∷ 62 ∷ v) (l .second .first)
 
+-- what may stand after it, or instead of it
 pub record Undeclared (v : List ℕ) : Type 0 where
   pub it : is-declaration v ≡ false
 
@@ -51,6 +53,7 @@ pub no-word : (v : List ℕ) → starts (ascii "<?xml") v ≡ false → is-decla
 unfolding is-declaration
 no-word v e = ap (λ (b : Bool). b && begins (one-of " \t\r\n?") (drop 5 v)) e
 
+-- where a word does not begin, no longer one does
 pub starts-front : (s t v : List ℕ) → starts s v ≡ false → starts (s ++ t) v ≡ false
 starts-front s t v e = no→false (starts (s ++ t) v)
     (λ y. let (r, f) = starts-split (s ++ t) v (T→true (starts (s ++ t) v) y) in true≢false (sym (starts-self s (t ++ r)) ∙ ap (starts s) (sym (append-assoc s t r) ∙ sym f) ∙ e))

@@ -84,7 +84,7 @@ ends-target = " \t\r\n?"
 space-ends : (b : ℕ) → space b ≡ true → one-of ends-target b ≡ true
 space-ends = among-sub (ascii " \t\r\n") (ascii ends-target) tt
 
--- it begins as one
+-- what is one begins as one
 pub begins-declared : (t y : List ℕ) → XMLDecl t → is-declaration (60 ∷ 63 ∷ (t ++ y)) ≡ true
 unfolding XMLDecl VersionInfo S
 begins-declared t y x =

@@ -72,11 +72,13 @@ pub record After (v : List ℕ) : Type 0 where
   pub lead : T (first-of "<" (kind v))
   pub no-item : item-here v ≡ false
 
+-- white space begins with a sign of it
 space-leads : (x z : List ℕ) → S x → T (space (kind (x ++ z)))
 unfolding S
 space-leads x z p = let c : Ch space (p .left) = p .first in rw (cat-before p z, c .bytes, kind-encode (c .char) (p .right ++ z)) (ascii-lead space space-ascii (c .char) (c .in-class))
 
 module _ (D : Dialect) (A : AsciiNames D) where
+  -- a comment or an instruction
   abbrev Item : Lang
   Item = Comment ∣ PI D
 

@@ -27,10 +27,12 @@ pub record Rooted (v : List ℕ) : Type 0 where
   pub no-doctype : starts (ascii "<!DOCTYPE") v ≡ false
 
 module _ (D : Dialect) (A : AsciiNames D) where
+  -- XMLDecl? Misc*
   pub opening-reads : Reads (read-opening D) (opening D) After any
   unfolding read-opening
   opening-reads = seq-by declaration-reads (λ u v m t. record { it = misc-undeclared D A v m t }) (misc-reads D A)
 
+  -- (doctypedecl Misc*)?
   pub ending-reads : Reads (read-ending D) (Opt (Doctype D · Star (Misc D))) Rooted any
   unfolding read-ending on
   ending-reads =
@@ -39,6 +41,7 @@ module _ (D : Dialect) (A : AsciiNames D) where
       (seq-by (weaken-by (λ v t. t) sub-any (doctype-reads D A)) (λ u v m t. record { it = tt }) (weaken-by (λ v t. t .after) sub-refl (misc-reads D A)))
       (weaken-by (λ v t. record { it = tt }) sub-any (empty-reads any)))
 
+  -- which begins as what may stand after Misc*
   pub ending-after : (u v : List ℕ) → Opt (Doctype D · Star (Misc D)) u → Rooted v → After (u ++ v)
   unfolding item-here
   ending-after u v (inr e) t = subst (λ (z : List ℕ). After (z ++ v)) (sym e) (t .after)
@@ -47,6 +50,7 @@ module _ (D : Dialect) (A : AsciiNames D) where
     no-item = (λ i. never-lit "<!--" "<!DOCTYPE" tt (l .left) (l .right ++ v) (l .first) i || never-lit "<?" "<!DOCTYPE" tt (l .left) (l .right ++ v) (l .first) i);
   })
 
+  -- and the whole
   pub prolog-reads : Reads (read-prolog D) (prolog D) Rooted any
   unfolding read-prolog
   prolog-reads = seq-by opening-reads ending-after ending-reads

@@ -40,31 +40,7 @@ module _ (D : Dialect) (A : AsciiNames D) where
       go e = unfold tag in (let m : length (u ++ v) ≡ 0 = ap length e in let n : length (t .left) ≡ 1 = ap length (t .first) in omega (arith, cat-size t, length-append u v))
 
   module _ (whole : Bool) (w : List ℕ) where
-    -- The theorem: a document is accepted exactly where the grammar has it.
-    pub right : (number-in (verdict D whole w) ≡ 0) ↔ Document D w
-    unfolding verdict
-    right = (λ z. go (encoding-read w) refl (coding-in (encoding-read w)) refl z, back)
-      where
-        of-class : (c : Coding) → coding-in (encoding-read w) ≡ c → Begins D (class-of c) w → Document D w
-        of-class c e b =
-            let d : Begins D xml-char w = in-class b (wider c (b .legal)) in
-            record { begins = d; coded = subst (λ (k : Coding). Star (Ch (class-of k)) (b .front ++ b .root)) (sym e ∙ ap coding-in (encoding-right D A w d)) (b .legal) }
-
-        go : (n : Encoding) → encoding-read w ≡ n → (c : Coding) → coding-in (encoding-read w) ≡ c → number-in (by-coding D whole w n c) ≡ 0 → Document D w
-        go n f in-utf8 e z = of-class in-utf8 e (verdict-right D in-utf8 whole w A .0 z)
-        go n f in-bytes e z = of-class in-bytes e (verdict-right D in-bytes whole w A .0 z)
-        go unnamed f foreign e z = absurd (let h : 2 ≡ 0 = z in omega arith)
-        go (named k n) f foreign e z = absurd (let h : 2 ≡ 0 = z in omega arith)
-
-        by : (d : Document D w) (n : Encoding) (c : Coding) → coding-in (encoding-of D (d .begins)) ≡ c → number-in (by-coding D whole w n c) ≡ 0
-        by d n in-utf8 e = verdict-right D in-utf8 whole w A .1 (in-class (d .begins) (subst (λ (k : Coding). Star (Ch (class-of k)) (d .begins .front ++ d .begins .root)) e (d .coded)))
-        by d n in-bytes e = verdict-right D in-bytes whole w A .1 (in-class (d .begins) (subst (λ (k : Coding). Star (Ch (class-of k)) (d .begins .front ++ d .begins .root)) e (d .coded)))
-        by d n foreign e = absurd (foreign-none (d .begins .front) (d .begins .root) (subst (λ (k : Coding). Star (Ch (class-of k)) (d .begins .front ++ d .begins .root)) e (d .coded)) (d .begins .is-tag))
-
-        back : Document D w → number-in (by-coding D whole w (encoding-read w) (coding-in (encoding-read w))) ≡ 0
-        back d = by d (encoding-read w) (coding-in (encoding-read w)) (ap coding-in (sym (encoding-right D A w (d .begins))))
-
-    -- and the verdict has the grammar's prolog and DOCTYPE
+    -- The theorem: what the grammar has is accepted, with the grammar's prolog and DOCTYPE;
     pub accepted-right : (d : Document D w) → verdict D whole w ≡ accepted (length (d .begins .front)) (doctype-of D (d .begins))
     unfolding verdict
     accepted-right d = go (encoding-read w) (coding-in (encoding-read w)) (ap coding-in (encoding-right D A w (d .begins)))
@@ -76,6 +52,22 @@ module _ (D : Dialect) (A : AsciiNames D) where
         go n in-utf8 e = accepted-begins D in-utf8 whole w A (in-coding _ e)
         go n in-bytes e = accepted-begins D in-bytes whole w A (in-coding _ e)
         go n foreign e = absurd (foreign-none (d .begins .front) (d .begins .root) (in-coding foreign e .legal) (d .begins .is-tag))
+
+    -- and nothing else is accepted
+    pub right : (number-in (verdict D whole w) ≡ 0) ↔ Document D w
+    unfolding verdict
+    right = (λ z. go (encoding-read w) (coding-in (encoding-read w)) refl z, λ d. ap number-in (accepted-right d))
+      where
+        of-class : (c : Coding) → coding-in (encoding-read w) ≡ c → Begins D (class-of c) w → Document D w
+        of-class c e b =
+            let d : Begins D xml-char w = in-class b (wider c (b .legal)) in
+            record { begins = d; coded = subst (λ (k : Coding). Star (Ch (class-of k)) (b .front ++ b .root)) (sym e ∙ ap coding-in (encoding-right D A w d)) (b .legal) }
+
+        go : (n : Encoding) (c : Coding) → coding-in (encoding-read w) ≡ c → number-in (by-coding D whole w n c) ≡ 0 → Document D w
+        go n in-utf8 e z = of-class in-utf8 e (verdict-right D in-utf8 whole w A .0 z)
+        go n in-bytes e z = of-class in-bytes e (verdict-right D in-bytes whole w A .0 z)
+        go unnamed foreign e z = absurd (let h : 2 ≡ 0 = z in omega arith)
+        go (named k n) foreign e z = absurd (let h : 2 ≡ 0 = z in omega arith)
 
   -- What is accepted of a beginning stands, whatever follows.
   abbrev pub longer : {w : List ℕ} (v : List ℕ) → Document D w → Document D (w ++ v)

@@ -23,12 +23,13 @@ use Rattle.spec.proofs.Document.Prolog.{Rooted}
 use Rattle.spec.proofs.Wellformed.LongestName.{Named, a-name, no-name, named}
 use Rattle.spec.proofs.Wellformed.Names.{start-first, ends-name, name-reads}
 
--- something is left where a sign of a class stands that the end is not of
+-- where a sign stands, and not the end, something is left
 left-there : (p : Class) → (T (p 129) → ⊥) → (w : List ℕ) → T (p (kind w)) → some-left w ≡ true
 unfolding some-left kind
 left-there p n [] t = absurd (n t)
 left-there p n (b ∷ w) t = refl
 
+-- so the refusal at the text's end makes no difference to what is read
 some-reads : {r : Reader} {L F : Lang} {f : Class} (c : Refusal) → (T (f 129) → ⊥) → Reads r L F f → Reads (choose some-left r (refuse c)) L F f
 some-reads {f = f} c n a =
     weaken-by (λ v t. t) (sub-either sub-refl sub-refl)
@@ -45,18 +46,20 @@ other-reads D f = record { sound = λ w k tw e. absurd (refused w k e); complete
         (λ _ f. let (i, j, g, h, l) = then-ok (word "<!" unexpected) (refuse unterminated) w k f in err-ok unterminated j h)
 
 module _ (D : Dialect) (A : AsciiNames D) where
-  -- the root's tag
+  -- what a name begins with, whatever stands after it
   name-leads : (u v : List ℕ) → Name D u → T (start-first (kind (u ++ v)))
   unfolding kind
   name-leads [] v n = absurd (name-reads D A .leads [] [] n (record { it = tt }))
   name-leads (b ∷ u) v n = name-reads D A .leads (b ∷ u) [] n (record { it = tt })
 
+  -- so no word begins where a tag does, that does not go on after '<' as a name begins
   pub tag-clear : (s : List ℕ) → T (clash s (ascii "<") start-first) → (u v : List ℕ) → tag D u → starts s (u ++ v) ≡ false
   unfolding tag
   tag-clear s c u v l =
       ap (starts s) (cat-before l v) ∙ ap (λ (z : List ℕ). starts s (z ++ (l .right ++ v))) (l .first)
       ∙ starts-clash s (ascii "<") start-first (l .right ++ v) c (name-leads (l .right) v (l .second))
 
+  -- nor comment, instruction or DOCTYPE
   pub tag-rooted : (u v : List ℕ) → tag D u → Rooted (u ++ v)
   unfolding item-here
   tag-rooted u v l = record {
@@ -76,7 +79,7 @@ module _ (D : Dialect) (A : AsciiNames D) where
       (as-lang no-first (alt (starts (ascii "<!")) (λ u v z t. absurd z) (λ u v l t. tag-clear (ascii "<!") tt u v l) (other-reads D (λ k. false))
       (seq (wd "<" unexpected tt) sub-any (some-reads unterminated (λ z. z) (name-reads D A))))))))
 
-  -- and whatever stands after the name
+  -- and it is read whatever stands after the name: then a longer one may be read
   pub tag-accepts : (u v : List ℕ) → tag D u → (k : ℕ) × (read-tag D (u ++ v) ≡ ok k)
   tag-accepts u v l = go (named D (n ++ v))
     where

@@ -3,7 +3,7 @@
 use mathlib.Core.Bool.{Bool, true, false}
 use mathlib.Core.List.{List}
 use mathlib.Core.Logic.{_↔_}
-use mathlib.Core.Path.{_≡_, refl, sym, ap, _∙_}
+use mathlib.Core.Path.{_≡_, refl, ap, _∙_}
 use Prim.Native.Nat.{ℕ}
 use native.Mathlib.Omega.{arith}
 use lib.Dec.{eqb}
@@ -15,7 +15,7 @@ use Rattle.spec.specs.Grammar.Prolog.{Begins, doctype-of}
 use Rattle.spec.specs.Reading.Document.{read-prolog, read-beginning}
 use Rattle.spec.specs.Reading.Readers.{Result, ok, err, taken}
 use Rattle.spec.specs.Reading.Refusals.{Refusal, number}
-use Rattle.spec.specs.Reading.Verdict.{Verdict, accepted, refused, ended, rootless, number-in, unended, sign-at, end-refusal, readable, ended-at, verdict-of, verdict-in}
+use Rattle.spec.specs.Reading.Verdict.{accepted, refused, ended, rootless, number-in, unended, sign-at, end-refusal, readable, ended-at, verdict-of, verdict-in}
 use Rattle.spec.proofs.Base.Results.{number-pos}
 use Rattle.spec.proofs.Document.Agrees.{document-agrees, prolog-size, doctype-read}
 

@@ -99,10 +99,16 @@ module _ (w : List ℕ) (o : Opens w) where
   opens-narrow : looks-like w ≡ narrow
   unfolding looks-like begins decode1 decode4 xml-char
   opens-narrow =
-      rw (no-lead (0 ∷ 0 ∷ 0xFE ∷ 0xFF ∷ []) (λ v. refl), no-lead (0 ∷ 0 ∷ 0 ∷ 0x3C ∷ []) (λ v. refl),
-      no-lead (0xFF ∷ 0xFE ∷ 0 ∷ 0 ∷ []) (λ v. refl), not-so (0x3C ∷ 0 ∷ 0 ∷ 0 ∷ []) (λ v e. o .second (0 ∷ 0 ∷ v) e),
-      no-lead (0xFE ∷ 0xFF ∷ []) (λ v. refl), no-lead (0 ∷ 0x3C ∷ []) (λ v. refl),
-      no-lead (0xFF ∷ 0xFE ∷ []) (λ v. refl), not-so (0x3C ∷ 0 ∷ []) (o .second))
+      rw (
+        no-lead (0 ∷ 0 ∷ 0xFE ∷ 0xFF ∷ []) (λ v. refl),
+        no-lead (0 ∷ 0 ∷ 0 ∷ 0x3C ∷ []) (λ v. refl),
+        no-lead (0xFF ∷ 0xFE ∷ 0 ∷ 0 ∷ []) (λ v. refl),
+        not-so (0x3C ∷ 0 ∷ 0 ∷ 0 ∷ []) (λ v e. o .second (0 ∷ 0 ∷ v) e),
+        no-lead (0xFE ∷ 0xFF ∷ []) (λ v. refl),
+        no-lead (0 ∷ 0x3C ∷ []) (λ v. refl),
+        no-lead (0xFF ∷ 0xFE ∷ []) (λ v. refl),
+        not-so (0x3C ∷ 0 ∷ []) (o .second),
+      )
 
 -- and a byte order mark is not cut in it
 uncut : (w v : List ℕ) → Opens w → starts mark w ≡ false → starts mark (w ++ v) ≡ false
