@@ -25,7 +25,7 @@ use Rattle.spec.specs.Reading.Refusals.{Refusal}
 use Rattle.spec.specs.Reading.Places.{at}
 use Rattle.spec.specs.Reading.Scan.{scan}
 use Rattle.spec.specs.Reading.Source.{admit, checked, checked-at}
-use Rattle.spec.specs.Reading.Verdict.{accepted, number-in, place-in, opened-in, doctype-in, encoding-read, mark-length, unmarked, moved, check-document}
+use Rattle.spec.specs.Reading.Verdict.{accepted, refused, number-in, place-in, opened-in, doctype-in, encoding-read, mark-length, unmarked, moved, check-document}
 use Rattle.spec.specs.Reading.Wellformed.{illegal-here, check-chars, check-char-refs, check-text, check-attr-value, check-name}
 use Rattle.spec.specs.Rows.{All, Numbered, rows, Met, spots}
 use Rattle.spec.specs.Conditions.{Sided, samples, Passed, pieces, Limited, sizes, Ascii, alphabets}
@@ -40,6 +40,7 @@ use Rattle.spec.proofs.Document.Agrees.{one-prolog}
 use Rattle.spec.proofs.Document.Encoding.{encoding-right}
 use Rattle.spec.proofs.Document.Legal.{legal-takes}
 use Rattle.spec.proofs.Document.Located.{check-lies}
+use Rattle.spec.proofs.Document.Marks.{check-refused-stays}
 use Rattle.spec.proofs.Document.Told.{told-inside}
 use Rattle.spec.proofs.Document.Whole.{document-right, parts-right, check-stays}
 use Rattle.spec.proofs.Dtd.Depth.{met-exactly-B, deeper-same-B}
@@ -211,3 +212,8 @@ document-within = check-lies appendix-B
 -- The DOCTYPE's text that it tells lies within the text, before its last byte at the latest, and the grammar derives it.
 pub doctype-inside : (whole : Bool) (w : List ℕ) (i j : ℕ) → doctype-in (check-document appendix-B whole w) ≡ from-to i j → (i ≤ j) × ((j < length w) × doctypedecl appendix-B (take (j - i) (drop i w)))
 doctype-inside = told-inside appendix-B appendix-B-ascii
+
+-- What is refused of a beginning is refused of the whole, whatever follows, with the same number and at the same place. (Where only the
+-- end of what is held is in the way, nothing is refused yet.)
+pub document-refused-stays : (part whole : Bool) (w v : List ℕ) (r : Refusal) (i : ℕ) → check-document appendix-B part w ≡ refused r i → check-document appendix-B whole (w ++ v) ≡ refused r i
+document-refused-stays = check-refused-stays appendix-B
