@@ -11,6 +11,7 @@ pub mod Agrees
 pub mod Verdict
 pub mod Encoding
 pub mod Right
+pub mod Front
 pub mod Whole
 pub mod Within
 pub mod Located

@@ -1,6 +1,6 @@
 -- What is refused of a beginning stands, whatever follows, with a byte order mark in front or without one. Assumes nothing.
 use mathlib.Core.Logic
-use mathlib.Core.Bool.{Bool, true, false, _&&_, _||_, true≢false, or-true}
+use mathlib.Core.Bool.{Bool, true, false, _||_, true≢false, or-true}
 use mathlib.Core.List.{List, [], _∷_, _++_}
 use mathlib.Core.Logic.{_⊎_}
 use mathlib.Core.Path.{_≡_, refl, sym, _∙_, ap, subst}
@@ -20,10 +20,11 @@ use Rattle.spec.specs.Reading.Utf8.{decode1, decode4}
 use Rattle.spec.specs.Reading.Verdict.{Verdict, accepted, refused, ended, rootless, verdict, mark-length, moved, by-width, check-document}
 use Rattle.spec.proofs.Agreement.Words.{starts-split}
 use Rattle.spec.proofs.Base.Loops.{while-stop}
-use Rattle.spec.proofs.Base.Tests.{and-left, and-right, decide, eqb-true}
+use Rattle.spec.proofs.Base.Tests.{and-left, and-right, decide}
+use Rattle.spec.proofs.Document.Front.{mark, opens-narrow, uncut}
 use Rattle.spec.proofs.Document.Known.{Decided}
 use Rattle.spec.proofs.Document.Stands.{refused-decided, refused-stays}
-use Rattle.spec.proofs.Document.Steady.{starts-same}
+use Rattle.spec.proofs.Document.Steady.{begins-longer}
 
 -- one of the signs of UTF-16 or UTF-32 stands first
 abbrev wide : List ℕ → Bool
@@ -46,7 +47,18 @@ width w x =
     go false false false true = refl
     go false false false false = refl
 
--- and stands whatever follows
+-- so none of them does, where the text does not look so
+narrow-wide : (w : List ℕ) → looks-like w ≡ narrow → wide w ≡ false
+narrow-wide w e = go (decide (wide w))
+  where
+    go : (wide w ≡ true) ⊎ (wide w ≡ false) → wide w ≡ false
+    go (Logic.inr f) = f
+    go (Logic.inl f) =
+        let x : Verdict = rootless not-utf8 0 in
+        let g : rootless not-utf8 0 ≡ refused not-utf8 0 = ap (λ (t : Wide). by-width t x) (sym e) ∙ width w x ∙ ap (λ (t : Bool). pick t (refused not-utf8 0) x) f in
+        absurd (let z : _≡_ {A = ℕ} 0 1 = cc in omega arith)
+
+-- and it stands whatever follows
 goes-longer : (p w v : List ℕ) → goes-on p anything w ≡ true → goes-on p anything (w ++ v) ≡ true
 goes-longer [] w v e = refl
 goes-longer (a ∷ p) [] v e = absurd (true≢false (sym e))
@@ -65,42 +77,20 @@ wide-longer w v =
     pair : (p q : List ℕ) → (goes-on p anything w || goes-on q anything w) ≡ true → (goes-on p anything (w ++ v) || goes-on q anything (w ++ v)) ≡ true
     pair p q = or-longer _ _ _ _ (goes-longer p w v) (goes-longer q w v)
 
--- where a Char stands first, and more than '<', none of them is cut off
-not-byte : (n a : ℕ) (u : List ℕ) → begins xml-char (n ∷ u) ≡ false → begins xml-char (a ∷ u) ≡ true → eqb a n ≡ false
-not-byte n a u e f = go (decide (eqb a n))
-  where
-    go : (eqb a n ≡ true) ⊎ (eqb a n ≡ false) → eqb a n ≡ false
-    go (Logic.inl g) = absurd (true≢false (sym f ∙ ap (λ (b : ℕ). begins xml-char (b ∷ u)) (eqb-true a n g) ∙ e))
-    go (Logic.inr g) = g
-
+-- where a character stands first, and more than '<', none of them is cut off
 narrow-stays : (w v : List ℕ) → begins xml-char w ≡ true → (w ≡ 0x3C ∷ [] → ⊥) → wide w ≡ false → wide (w ++ v) ≡ false
-unfolding begins decode1 decode4 xml-char
-narrow-stays [] v b n e = absurd (true≢false (sym b))
-narrow-stays (a ∷ u) v b n e = go u (not-byte 0 a u refl b) (not-byte 0xFE a u refl b) (not-byte 0xFF a u refl b) (decide (eqb a 0x3C)) n e
+narrow-stays w v b n e = narrow-wide (w ++ v) (opens-narrow (w ++ v) (record { lead = begins-longer xml-char w v b; second = uncut-less w b n e }))
   where
-    go : (u : List ℕ) → eqb a 0 ≡ false → eqb a 0xFE ≡ false → eqb a 0xFF ≡ false → (eqb a 0x3C ≡ true) ⊎ (eqb a 0x3C ≡ false) → (a ∷ u ≡ 0x3C ∷ [] → ⊥) → wide (a ∷ u) ≡ false → wide (a ∷ (u ++ v)) ≡ false
-    go u z f g (Logic.inr l) n e = rw (z, f, g, l)
-    go [] z f g (Logic.inl l) n e = absurd (n (ap (λ (b : ℕ). b ∷ []) (eqb-true a 0x3C l)))
-    go (c ∷ u) z f g (Logic.inl l) n e = let h : eqb c 0 ≡ false = zero-not (eqb c 0) (goes-on (0 ∷ 0 ∷ []) anything u) (rw (z, f, g, l) at e) in rw (z, f, g, l, h)
+    uncut-less : (w : List ℕ) → begins xml-char w ≡ true → (w ≡ 0x3C ∷ [] → ⊥) → wide w ≡ false → (x : List ℕ) → w ++ v ≡ 0x3C ∷ 0 ∷ x → ⊥
+    uncut-less [] b n e x f = true≢false (sym b ∙ (unfold begins decode1 in refl))
+    uncut-less (a ∷ []) b n e x f = n (let g : a ≡ 0x3C = cc in ap (λ (c : ℕ). c ∷ []) g)
+    uncut-less (a ∷ c ∷ u) b n e x f =
+        let g : a ≡ 0x3C = cc in
+        let h : c ≡ 0 = cc in
+        true≢false (sym (less u) ∙ (λ i. wide (sym g i ∷ sym h i ∷ u)) ∙ e)
       where
-        zero-not : (t s : Bool) → ((t && s) || (t && true)) ≡ false → t ≡ false
-        zero-not true s e = absurd (true≢false (sym (or-true s) ∙ e))
-        zero-not false s e = refl
-
-abbrev mark : List ℕ
-mark = 0xEF ∷ 0xBB ∷ 0xBF ∷ []
-
-mark-stays : (w v : List ℕ) → begins xml-char w ≡ true → starts mark w ≡ false → starts mark (w ++ v) ≡ false
-unfolding begins decode1 decode4 starts
-mark-stays [] v b e = absurd (true≢false (sym b))
-mark-stays (a ∷ []) v b e = rw (not-byte 0xEF a [] refl b)
-mark-stays (a ∷ c ∷ []) v b e = go (decide (eqb a 0xEF)) (decide (eqb c 0xBB))
-  where
-    go : (eqb a 0xEF ≡ true) ⊎ (eqb a 0xEF ≡ false) → (eqb c 0xBB ≡ true) ⊎ (eqb c 0xBB ≡ false) → starts mark (a ∷ c ∷ v) ≡ false
-    go (Logic.inr f) g = rw f
-    go (Logic.inl f) (Logic.inr g) = rw (f, g)
-    go (Logic.inl f) (Logic.inl g) = absurd (true≢false (sym b ∙ (λ i. begins xml-char (eqb-true a 0xEF f i ∷ eqb-true c 0xBB g i ∷ []))))
-mark-stays (a ∷ c ∷ d ∷ u) v b e = starts-same mark (a ∷ c ∷ d ∷ u) v (omega arith) ∙ e
+        less : (u : List ℕ) → wide (0x3C ∷ 0 ∷ u) ≡ true
+        less u = or-true (goes-on (0 ∷ 0 ∷ []) anything u)
 
 -- of what is refused, a Char stands first, and more than '<'
 undecided : Decided [] → ⊥
@@ -160,4 +150,4 @@ module _ (D : Dialect) where
           let a : moved 0 (verdict D part w) ≡ refused r i = ap (λ (t : Bool). pick t (refused not-utf8 0) (moved 0 (verdict D part w))) (sym g) ∙ sym (without part w f) ∙ e in
           let (j, h, l) = moved-refused 0 (verdict D part w) r i a in
           let c = some-char part w r j h in
-          without whole (w ++ v) (mark-stays w v c f) ∙ ap (λ (t : Bool). pick t (refused not-utf8 0) (moved 0 (verdict D whole (w ++ v)))) (narrow-stays w v c (more-than-less part w r j h) g) ∙ again 0 w a
+          without whole (w ++ v) (uncut w v c f) ∙ ap (λ (t : Bool). pick t (refused not-utf8 0) (moved 0 (verdict D whole (w ++ v)))) (narrow-stays w v c (more-than-less part w r j h) g) ∙ again 0 w a

@@ -1,5 +1,5 @@
 -- The whole check: a byte order mark is passed over, and no document looks like UTF-16 or UTF-32. Assumes nothing.
-use mathlib.Core.Bool.{Bool, true, false, not, true≢false}
+use mathlib.Core.Bool.{Bool, true, not, true≢false}
 use mathlib.Core.List.{List, [], _∷_, _++_, append-assoc}
 use mathlib.Core.Logic.{_↔_}
 use mathlib.Core.Path.{_≡_, refl, sym, _∙_, ap, subst}
@@ -8,45 +8,20 @@ use native.Mathlib.Omega.{arith}
 use lib.Dec.{eqb}
 use lib.ListN.{length, drop, length-append}
 use Rattle.spec.specs.Grammar.Characters.{xml-char}
-use Rattle.spec.specs.Grammar.Encodings.{goes-on, anything, Wide, narrow, utf-16-be, utf-16-le, utf-32-be, utf-32-le, looks-like}
+use Rattle.spec.specs.Grammar.Encodings.{Wide, narrow, utf-16-be, utf-16-le, utf-32-be, utf-32-le, looks-like}
 use Rattle.spec.specs.Grammar.Languages.{Ch, Star, end, more}
 use Rattle.spec.specs.Grammar.Names.{Dialect, Name, AsciiNames}
 use Rattle.spec.specs.Grammar.Prolog.{tag, Begins, doctype-of, Document}
 use Rattle.spec.specs.Reading.Readers.{starts, begins}
-use Rattle.spec.specs.Reading.Utf8.{decode4, decode1}
 use Rattle.spec.specs.Reading.Verdict.{Verdict, accepted, refused, ended, rootless, number-in, verdict, mark-length, unmarked, moved, by-width, check-document}
 use Rattle.spec.proofs.Agreement.Chars.{ch-some, begins-ch}
-use Rattle.spec.proofs.Agreement.Words.{starts-split}
-use Rattle.spec.proofs.Base.Tests.{T→true, no→false, and-left, and-right, eqb-true}
+use Rattle.spec.proofs.Base.Tests.{and-right}
 use Rattle.spec.proofs.Characters.Bytes.{avoids, class-avoids}
 use Rattle.spec.proofs.Characters.Text.{cat-size}
+use Rattle.spec.proofs.Document.Front.{mark, Marked, marked, bare, mark-there, no-mark, Opens, opens-narrow, uncut}
 use Rattle.spec.proofs.Document.Right.{right, accepted-right, longer, accepted-stays}
 
--- a byte order mark stands first, or none does
-abbrev mark : List ℕ
-mark = 0xEF ∷ 0xBB ∷ 0xBF ∷ []
-
-data Marked (w : List ℕ) : Type 0 where
-  marked : (x : List ℕ) → w ≡ mark ++ x → Marked w
-  bare : starts mark w ≡ false → Marked w
-
-mark-there : (w : List ℕ) → Marked w
-mark-there w = go (starts mark w) refl
-  where
-    go : (t : Bool) → starts mark w ≡ t → Marked w
-    go true e = let (x, f) = starts-split mark w e in marked x f
-    go false e = bare e
-
-no-mark : (w : List ℕ) → starts mark w ≡ false → mark-length w ≡ 0
-unfolding mark-length
-no-mark w e = rw e
-
--- how a document begins: with a character, and not with '<' and a byte 0
-record Opens (w : List ℕ) : Type 0 where
-  lead : begins xml-char w ≡ true
-  second : (v : List ℕ) → w ≡ 0x3C ∷ 0 ∷ v → ⊥
-  size : 1 < length w
-
+-- how a document begins
 module _ (D : Dialect) where
   tag-size : (u v : List ℕ) → tag D v → 1 < length (u ++ v)
   unfolding tag Name
@@ -57,7 +32,7 @@ module _ (D : Dialect) where
       omega (arith, cat-size t, cat-size (t .second), length-append u v)
 
   opens : (w : List ℕ) → Document D w → Opens w
-  opens w d = record { lead = first (b .legal) refl; second = λ v e. at-1 u (b .rest) v free long (sym (b .split) ∙ e); size = rw (b .split) (let m : 1 < length u = long in omega (arith, length-append u (b .rest))) }
+  opens w d = record { lead = first (b .legal) refl; second = λ v e. at-1 u (b .rest) v free long (sym (b .split) ∙ e) }
     where
       b : Begins D xml-char w
       b = d .begins
@@ -79,50 +54,6 @@ module _ (D : Dialect) where
       at-1 [] r v f l e = omega arith
       at-1 (a ∷ []) r v f l e = let z : 1 < 1 = l in omega arith
       at-1 (a ∷ c ∷ x) r v f l e = let z : c ≡ 0 = cc in true≢false (sym (and-right (not (eqb a 0)) (avoids 0 (c ∷ x)) f) ∙ ap (λ (y : ℕ). avoids 0 (y ∷ x)) z)
-
--- so it does not look like UTF-16 or UTF-32
-goes-split : (s w : List ℕ) → goes-on s anything w ≡ true → (v : List ℕ) × (w ≡ s ++ v)
-goes-split [] w e = (w, refl)
-goes-split (p ∷ s) [] e = absurd (true≢false (sym e))
-goes-split (p ∷ s) (b ∷ w) e =
-    let (v, f) = goes-split s w (and-right (eqb b p) (goes-on s anything w) e) in
-    let g : b ≡ p = eqb-true b p (and-left (eqb b p) (goes-on s anything w) e) in
-    (v, λ i. g i ∷ f i)
-
-module _ (w : List ℕ) (o : Opens w) where
-  not-so : (s : List ℕ) → ((v : List ℕ) → w ≡ s ++ v → ⊥) → goes-on s anything w ≡ false
-  not-so s h = no→false (goes-on s anything w) (λ t. let (v, e) = goes-split s w (T→true (goes-on s anything w) t) in h v e)
-
-  no-lead : (s : List ℕ) → ((v : List ℕ) → begins xml-char (s ++ v) ≡ false) → goes-on s anything w ≡ false
-  no-lead s h = not-so s (λ v e. true≢false (sym (o .lead) ∙ ap (begins xml-char) e ∙ h v))
-
-  opens-narrow : looks-like w ≡ narrow
-  unfolding looks-like begins decode1 decode4 xml-char
-  opens-narrow =
-      rw (
-        no-lead (0 ∷ 0 ∷ 0xFE ∷ 0xFF ∷ []) (λ v. refl),
-        no-lead (0 ∷ 0 ∷ 0 ∷ 0x3C ∷ []) (λ v. refl),
-        no-lead (0xFF ∷ 0xFE ∷ 0 ∷ 0 ∷ []) (λ v. refl),
-        not-so (0x3C ∷ 0 ∷ 0 ∷ 0 ∷ []) (λ v e. o .second (0 ∷ 0 ∷ v) e),
-        no-lead (0xFE ∷ 0xFF ∷ []) (λ v. refl),
-        no-lead (0 ∷ 0x3C ∷ []) (λ v. refl),
-        no-lead (0xFF ∷ 0xFE ∷ []) (λ v. refl),
-        not-so (0x3C ∷ 0 ∷ []) (o .second),
-      )
-
--- and a byte order mark is not cut in it
-uncut : (w v : List ℕ) → Opens w → starts mark w ≡ false → starts mark (w ++ v) ≡ false
-unfolding starts begins decode1 decode4
-uncut [] v o n = absurd (let z : 1 < 0 = o .size in omega arith)
-uncut (a ∷ []) v o n = absurd (let z : 1 < 1 = o .size in omega arith)
-uncut (a ∷ b ∷ c ∷ w) v o n = n
-uncut (a ∷ b ∷ []) v o n = no→false (starts mark (a ∷ b ∷ v)) (λ t. cut (starts-split mark (a ∷ b ∷ v) (T→true (starts mark (a ∷ b ∷ v)) t)))
-  where
-    cut : (x : List ℕ) × (a ∷ b ∷ v ≡ mark ++ x) → ⊥
-    cut (x, e) =
-        let f : a ≡ 0xEF = cc in
-        let g : b ≡ 0xBB = cc in
-        true≢false (sym (o .lead) ∙ (λ i. begins xml-char (f i ∷ g i ∷ [])))
 
 module _ (D : Dialect) (A : AsciiNames D) where
   -- what stands after a byte order mark is a document: the whole does not look like UTF-16 or UTF-32
@@ -169,7 +100,7 @@ module _ (D : Dialect) (A : AsciiNames D) where
     where
       go : Marked w → mark-length (w ++ v) ≡ mark-length w
       go (marked x e) = unfold mark-length starts in rw e
-      go (bare e) = no-mark (w ++ v) (uncut w v (opens D w (subst (λ (k : ℕ). Document D (drop k w)) (no-mark w e) d)) e) ∙ sym (no-mark w e)
+      go (bare e) = no-mark (w ++ v) (uncut w v (opens D w (subst (λ (k : ℕ). Document D (drop k w)) (no-mark w e) d) .lead) e) ∙ sym (no-mark w e)
 
   longer-rest : (w v : List ℕ) → Document D (unmarked w) → unmarked (w ++ v) ≡ unmarked w ++ v
   longer-rest w v d = ap (λ (k : ℕ). drop k (w ++ v)) (longer-mark w v d) ∙ go (mark-there w)
