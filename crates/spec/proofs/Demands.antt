@@ -27,8 +27,8 @@ use Rattle.spec.specs.Reading.Scan.{scan}
 use Rattle.spec.specs.Reading.Source.{admit, checked, checked-at}
 use Rattle.spec.specs.Reading.Verdict.{accepted, refused, number-in, place-in, opened-in, doctype-in, encoding-read, mark-length, unmarked, moved, check-document}
 use Rattle.spec.specs.Reading.Wellformed.{illegal-here, check-chars, check-char-refs, check-text, check-attr-value, check-name}
-use Rattle.spec.specs.Rows.{All, Numbered, rows, Met, spots}
-use Rattle.spec.specs.Conditions.{Sided, samples, Passed, pieces, Limited, sizes, Ascii, alphabets}
+use Rattle.spec.specs.Rows.{All, Numbered, rows, Met, spots, Judged, cases}
+use Rattle.spec.specs.Conditions.{Sided, samples, Limited, sizes, Ascii, alphabets}
 use Rattle.spec.specs.Grammar.Languages.{Lang, ascii, Ch, Star}
 use Rattle.spec.proofs.Agreement.Accepts.{promise, tells}
 use Rattle.spec.proofs.Characters.AppendixB.{appendix-B-ascii}
@@ -121,15 +121,12 @@ cut-anywhere = cuts-covered appendix-B appendix-B-ascii
 pub premise-shown : All Sided samples
 premise-shown = Rows.samples-sided
 
--- The other conditions from both sides: how long a text may be, which name classes the theorems are for, what may stand before a DOCTYPE.
+-- The other conditions from both sides: how long a text may be, which name classes the theorems are for.
 pub limit-shown : All Limited sizes
 limit-shown = Conditions.sizes-limited
 
 pub ascii-shown : All Ascii alphabets
 ascii-shown = Conditions.alphabets-spelled
-
-pub misc-shown : All Passed pieces
-misc-shown = Rows.pieces-passed
 
 -- Every refusal has a place, and it lies within the text, 1 and 2 included; what is accepted is read to the text's end.
 abbrev Located : Reader → Type 0
@@ -217,3 +214,7 @@ doctype-inside = told-inside appendix-B appendix-B-ascii
 -- end of what is held is in the way, nothing is refused yet.)
 pub document-refused-stays : (part whole : Bool) (w v : List ℕ) (r : Refusal) (i : ℕ) → check-document appendix-B part w ≡ refused r i → check-document appendix-B whole (w ++ v) ≡ refused r i
 document-refused-stays = check-refused-stays appendix-B
+
+-- Documents with their verdicts, by the numbers, the places, and where what does not end was opened.
+pub documents-shown : All Judged cases
+documents-shown = Rows.cases-judged

@@ -2,7 +2,7 @@
 use mathlib.Core.Path.{_≡_, refl, sym, _∙_}
 use mathlib.Core.Bool.{Bool, true, _&&_}
 use mathlib.Core.List.{List, _++_}
-use Prim.Native.Nat.{ℕ, _≤_}
+use Prim.Native.Nat.{ℕ, _+_, _≤_}
 use lib.Dec.{eqb, leb}
 use lib.ListN.{length}
 use Rattle.spec.specs.Basics.{limit}
@@ -12,6 +12,9 @@ use Rattle.spec.specs.Grammar.Doctype.{doctypedecl}
 use Rattle.spec.specs.Grammar.References.{digit-value, value-on}
 use Rattle.spec.specs.Grammar.AppendixB.{in-table, start-char, part-char, appendix-B}
 use Rattle.spec.specs.Grammar.Literals.{pubid-char}
+use Rattle.spec.specs.Grammar.Encodings.{coding-of, looks-like}
+use Rattle.spec.specs.Reading.Document.{at-most, closing, is-declaration, read-declaration, item-here, read-item, read-misc, read-doctype-text, read-doctype, read-opening, read-ending, read-prolog, read-other, read-tag, read-beginning, legal-length, find-doctype}
+use Rattle.spec.specs.Reading.Verdict.{number-in, place-in, opened-in, in-declaration, unended, sign-at, end-refusal, verdict-in, read-version, read-encoding, encoding-in, find-encoding, encoding-read, verdict, mark-length, check-document}
 use Rattle.spec.specs.Reading.Utf8.{decode4, decode1}
 use Rattle.spec.specs.Reading.Places.{outside}
 use Rattle.spec.specs.Reading.Readers.{
@@ -88,11 +91,11 @@ use Rattle.spec.specs.Reading.Dtd.{
   doctype-before,
   check-doctype,
 }
-use Rattle.spec.specs.Reading.Checks.{all-of, is-version-num, valued, parse-eq-quoted, pseudo-attr, check-declaration}
+use Rattle.spec.specs.Reading.Checks.{all-of, is-version-num, is-enc-name, is-yes-or-no, valued, parse-eq-quoted, pseudo-attr, check-declaration}
 use Rattle.spec.specs.Premise.{bare, quiet}
 use Rattle.spec.specs.Promises.{Checks}
-use Rattle.spec.specs.Rows.{All, Subject, doctype, declaration, rule-of, grammar-of, Row, Numbered, rows, Spot, Met, spots}
-use Rattle.spec.specs.Conditions.{Sample, Sided, samples, Piece, Passed, pieces}
+use Rattle.spec.specs.Rows.{All, Subject, doctype, declaration, rule-of, grammar-of, Row, Numbered, rows, Spot, Met, spots, Case, verdict-on, Judged, cases}
+use Rattle.spec.specs.Conditions.{Sample, Sided, samples}
 use Rattle.spec.proofs.Base.Tables.{each, by-test}
 use Rattle.spec.proofs.Base.Tests.{true→T, alike, alike-same, and-left, and-right, and-both, eqb-true, eqb-yes, leb-true}
 use Rattle.spec.proofs.Agreement.Accepts.{Agrees, promise}
@@ -102,7 +105,6 @@ use Rattle.spec.proofs.Division.Covers.{covers, covered-yes, covered-de
 use Rattle.spec.proofs.Division.Divide.{kind-at, divide}
 use Rattle.spec.proofs.Dtd.Texts.{doctype-agrees}
 use Rattle.spec.proofs.Characters.Text.{all-ascii, ascii-text}
-use Rattle.spec.proofs.Prolog.MiscRead.{misc-test, misc-yes, misc-passes}
 use Rattle.spec.proofs.Inside.Checks.{Placed, doctype-placed, declaration-placed}
 
 -- numbers
@@ -168,45 +170,50 @@ sides s t =
       );
     }
 
--- what stands before a DOCTYPE
-abbrev passed : Piece → Bool
-passed p = all-ascii (ascii (p .text)) && alike (misc-test appendix-B (ascii (p .text))) (p .misc)
+-- documents
+abbrev judged : Case → Bool
+judged c =
+    eqb (number-in (verdict-on c)) (c .answer) && (eqb (opened-in (verdict-on c)) (length (c .read-well)) && eqb (place-in (verdict-on c)) (length (c .read-well) + length (c .unclosed)))
 
-passes : (p : Piece) → passed p ≡ true → Passed p
-unfolding Text
-passes p t =
-    let w : List ℕ = ascii (p .text) in
-    let b : Bool = alike (misc-test appendix-B w) (p .misc) in
-    let e : misc-test appendix-B w ≡ p .misc = alike-same (misc-test appendix-B w) (p .misc) (and-right (all-ascii w) b t) in (
-      λ z. misc-yes appendix-B appendix-B-ascii w (ascii-text w (true→T (all-ascii w) (and-left (all-ascii w) b t))) (e ∙ z),
-      λ l. sym e ∙ misc-passes appendix-B appendix-B-ascii w l,
-    )
+judges : (c : Case) → judged c ≡ true → Judged c
+judges c t =
+    let a : Bool = eqb (number-in (verdict-on c)) (c .answer) in
+    let b : Bool = eqb (opened-in (verdict-on c)) (length (c .read-well)) in
+    let d : Bool = eqb (place-in (verdict-on c)) (length (c .read-well) + length (c .unclosed)) in
+    let e : (b && d) ≡ true = and-right a (b && d) t in
+    record {
+      number = eqb-true (number-in (verdict-on c)) (c .answer) (and-left a (b && d) t);
+      opened = eqb-true (opened-in (verdict-on c)) (length (c .read-well)) (and-left b d e);
+      place = eqb-true (place-in (verdict-on c)) (length (c .read-well) + length (c .unclosed)) (and-right b d e);
+    }
 
 -- The tables whose tests read a text: one computation of them all, so that what it looks into stands once.
-all-computed : ((each given rows && each met spots) && (each sided samples && each passed pieces)) ≡ true
+all-computed : ((each given rows && each met spots) && (each sided samples && each judged cases)) ≡ true
 unfolding
     in-table start-char part-char decode4 decode1 xml-char pubid-char digit-value value-on _>>_ nothing refuse as-one refuse-at at-end starts choose on word-of run while while-fuel
     some-left throughout required a-byte begins char contains before up-to utf8 admit checked checked-at reference char-ref ref-or-byte check-char-refs parts name check-name
     skip-s require-s parse-quoted check-pubid parse-external-id check-att-value check-comment parse-comment outside take-decl-body reserved after connector connected group-of
     occurs bar-list word-among parse-default-decl on-quote second-literal nmtoken ncname parse-pe-reference has-pe-reference check-target check-pi parse-pi parse-mixed
     cp-of parse-group parse-children parse-contentspec parse-element-decl parse-att-type parse-att-def parse-attlist-decl ndata parse-entity-decl parse-notation-decl
-    finish-decl parse-markup-decl subset-fuel parse-internal-subset doctype-before check-doctype kind-at divide bare quiet all-of is-version-num valued parse-eq-quoted pseudo-attr check-declaration
+    finish-decl parse-markup-decl subset-fuel parse-internal-subset doctype-before check-doctype kind-at divide bare quiet all-of is-version-num valued parse-eq-quoted pseudo-attr check-declaration is-enc-name is-yes-or-no
+    at-most closing is-declaration read-declaration item-here read-item read-misc read-doctype-text read-doctype read-opening read-ending read-prolog read-other read-tag read-beginning legal-length find-doctype
+    in-declaration unended sign-at end-refusal verdict-in read-version read-encoding encoding-in find-encoding encoding-read verdict mark-length check-document coding-of looks-like
 all-computed = refl
 
 abbrev numbered-and-met : Bool
 numbered-and-met = each given rows && each met spots
 
-abbrev sided-and-passed : Bool
-sided-and-passed = each sided samples && each passed pieces
+abbrev sided-and-judged : Bool
+sided-and-judged = each sided samples && each judged cases
 
 pub rows-numbered : All Numbered rows
-rows-numbered = by-test given numbers rows (and-left (each given rows) (each met spots) (and-left numbered-and-met sided-and-passed all-computed))
+rows-numbered = by-test given numbers rows (and-left (each given rows) (each met spots) (and-left numbered-and-met sided-and-judged all-computed))
 
 pub spots-met : All Met spots
-spots-met = by-test met meets spots (and-right (each given rows) (each met spots) (and-left numbered-and-met sided-and-passed all-computed))
+spots-met = by-test met meets spots (and-right (each given rows) (each met spots) (and-left numbered-and-met sided-and-judged all-computed))
 
 pub samples-sided : All Sided samples
-samples-sided = by-test sided sides samples (and-left (each sided samples) (each passed pieces) (and-right numbered-and-met sided-and-passed all-computed))
+samples-sided = by-test sided sides samples (and-left (each sided samples) (each judged cases) (and-right numbered-and-met sided-and-judged all-computed))
 
-pub pieces-passed : All Passed pieces
-pieces-passed = by-test passed passes pieces (and-right (each sided samples) (each passed pieces) (and-right numbered-and-met sided-and-passed all-computed))
+pub cases-judged : All Judged cases
+cases-judged = by-test judged judges cases (and-right (each sided samples) (each judged cases) (and-right numbered-and-met sided-and-judged all-computed))

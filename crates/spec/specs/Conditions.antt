@@ -11,7 +11,7 @@ use lib.Dec.{leb}
 use Rattle.spec.specs.Basics.{within}
 use Rattle.spec.specs.Grammar.AppendixB.{start-char, part-char, appendix-B}
 use Rattle.spec.specs.Grammar.Characters.{Chars}
-use Rattle.spec.specs.Grammar.Doctype.{doctypedecl, Misc}
+use Rattle.spec.specs.Grammar.Doctype.{doctypedecl}
 use Rattle.spec.specs.Grammar.Languages.{ascii, one-of, none-of}
 use Rattle.spec.specs.Grammar.Names.{with-classes, AsciiNames}
 use Rattle.spec.specs.Promises.{Accepted, Covered}
@@ -64,30 +64,6 @@ samples =
     ∷ sample "a[]]" false false
     ∷ sample "a[<!ELEMENT b>]" false false
     ∷ sample "a[<!--b--c-->]" false false
-    ∷ []
-
--- What may stand before a DOCTYPE: whether the text is one Misc, [27].
-pub record Piece : Type 0 where
-  pub text : String
-  pub misc : Bool
-
-abbrev pub piece : String → Bool → Piece
-piece s b = record { text = s; misc = b }
-
-abbrev pub Passed : Piece → Type 0
-Passed p = (p .misc ≡ true) ↔ Misc appendix-B (ascii (p .text))
-
-abbrev pub pieces : List Piece
-pieces =
-    piece "<!--it's-->" true
-    ∷ piece "<?b it's?>" true
-    ∷ piece " \t\r\n" true
-    ∷ piece "" false
-    ∷ piece "b" false
-    ∷ piece "<!--b--" false
-    ∷ piece "<?xml version='1.0'?>" false
-    ∷ piece "<!DOCTYPE a>" false
-    ∷ piece "<b/>" false
     ∷ []
 
 -- So many times 'a': whether it may be looked at.

@@ -1,10 +1,10 @@
--- Two tables of texts, with what is said of each row: document 01's sixteen texts and their numbers, and texts with the places at which
--- they are refused. That it holds of every row is a theorem on the page of demands. Assumes nothing.
+-- Tables of texts, with what is said of each row: document 01's sixteen texts and their numbers, texts with the places at which they are
+-- refused, and documents with their verdicts. That it holds of every row is a theorem on the page of demands. Assumes nothing.
 use mathlib.Core.List.{List, [], _∷_, _++_}
 use mathlib.Core.Bool.{true}
 use mathlib.Core.Logic.{_↔_}
 use mathlib.Core.Path.{_≡_}
-use Prim.Native.Nat.{ℕ}
+use Prim.Native.Nat.{ℕ, _+_}
 use Prim.Native.String.{String}
 use lib.Dec.{T}
 use lib.ListN.{length}
@@ -17,6 +17,7 @@ use Rattle.spec.specs.Reading.Checks.{check-declaration}
 use Rattle.spec.specs.Reading.Dtd.{check-doctype}
 use Rattle.spec.specs.Reading.Readers.{Reader}
 use Rattle.spec.specs.Reading.Source.{checked}
+use Rattle.spec.specs.Reading.Verdict.{Verdict, number-in, place-in, opened-in, check-document}
 
 -- it holds of every row
 abbrev pub All : {A : Type 0} → (A → Type 0) → List A → Type 0
@@ -114,4 +115,76 @@ spots =
     ∷ spot doctype "a[<!--" "b--" 7
     ∷ spot doctype "a[<?" "b" 7
     ∷ spot doctype "a[%p; " "" 7
+    ∷ []
+
+-- A document in three pieces. What does not end was opened where the second begins (which is empty, where nothing was), and it is refused
+-- where the third begins; or, accepted, has its root there.
+pub record Case : Type 0 where
+  pub read-well : List ℕ
+  pub unclosed : List ℕ
+  pub from-there : List ℕ
+  pub answer : ℕ
+
+abbrev pub case : List ℕ → List ℕ → List ℕ → ℕ → Case
+case s t u n = record { read-well = s; unclosed = t; from-there = u; answer = n }
+
+abbrev pub verdict-on : Case → Verdict
+verdict-on c = check-document appendix-B true (c .read-well ++ c .unclosed ++ c .from-there)
+
+pub record Judged (c : Case) : Type 0 where
+  pub number : number-in (verdict-on c) ≡ c .answer
+  pub opened : opened-in (verdict-on c) ≡ length (c .read-well)
+  pub place : place-in (verdict-on c) ≡ length (c .read-well) + length (c .unclosed)
+
+abbrev pub cases : List Case
+cases =
+    -- accepted: the root begins where the last piece does
+    case [] [] (ascii "<a") 0
+    ∷ case (ascii "<?xml version='1.0' encoding='Utf-8'?>\n<!--b--><?c d?>\n<!DOCTYPE a [<!ELEMENT a ANY>]>\n") [] (ascii "<a/>") 0
+    ∷ case (ascii "<!DOCTYPE a[<?b ]?>]>") [] (ascii "<a>") 0
+    ∷ case (ascii "<!DOCTYPE a[<?b it's?>]>") [] (ascii "<a>") 0
+    ∷ case (ascii "<!DOCTYPE a[<!ENTITY b '>]>'>]>") [] (ascii "<a>") 0
+    ∷ case (0xEF ∷ 0xBB ∷ 0xBF ∷ []) [] (ascii "<a>") 0
+    ∷ case (ascii "<?xml version='1.0' encoding='ISO-8859-1'?>") [] (ascii "<a>" ++ (0xFC ∷ [])) 0
+    -- the text ends before the root
+    ∷ case [] [] [] 7
+    ∷ case (ascii " \t\n") [] [] 7
+    ∷ case (ascii "<?xml version='1.0'?>\n") [] [] 7
+    ∷ case (ascii "<!DOCTYPE a>\n") [] [] 7
+    -- the text ends inside something
+    ∷ case [] (ascii "<") [] 7
+    ∷ case [] (ascii "<!DOC") [] 7
+    ∷ case (ascii "<!--b-->") (ascii "<!--c--") [] 7
+    ∷ case [] (ascii "<?b") [] 7
+    ∷ case [] (ascii "<?xml version='1.0'") [] 7
+    ∷ case [] (ascii "<!DOCTYPE a SYST") [] 7
+    ∷ case [] (ascii "<!DOCTYPE a [<!ELEMENT a ANY>") [] 7
+    ∷ case (ascii "<!DOCTYPE a SYSTEM ") (ascii "'b") [] 7
+    ∷ case (ascii "<!DOCTYPE a [") (ascii "<!ENTITY b 'c>]><a/>") [] 7
+    -- the first thing that can't be read on
+    ∷ case [] [] (ascii "a") 8
+    ∷ case (ascii "<") [] (ascii "1>") 4
+    ∷ case [] [] (ascii "<!doctype a><a/>") 8
+    ∷ case [] [] (ascii "<![CDATA[]]>") 8
+    ∷ case (ascii "<?xmlversion") [] (ascii "='1.0'?><a/>") 4
+    ∷ case (ascii "<?") [] (ascii "XML version='1.0'?><a/>") 11
+    ∷ case (ascii "<?") [] (ascii "?><a/>") 4
+    ∷ case (ascii "<?xml version=") [] (ascii "1.0?><a/>") 6
+    ∷ case (ascii "<?xml version='") [] (ascii "1.0?><a/>") 7
+    ∷ case (ascii "<!--b") [] (ascii "--c--><a/>") 12
+    ∷ case (ascii "<!DOCTYPE a [<!ELEMENT b") [] (ascii "(c)>]><a/>") 3
+    ∷ case (ascii " ") [] (ascii "<?xml version='1.0'?><a/>") 21
+    ∷ case (ascii "<!DOCTYPE a>") [] (ascii "<!DOCTYPE a><a/>") 21
+    -- what is no character, before it
+    ∷ case [] (ascii "<!--b") (1 ∷ ascii "--><a/>") 18
+    ∷ case [] (ascii "<!--b") (0xFF ∷ ascii "--><a/>") 2
+    ∷ case (ascii "<!DOCTYPE a [") (ascii "<!ENTITY b '") (1 ∷ ascii "'>]><a/>") 18
+    ∷ case (ascii " ") [] (0x80 ∷ ascii "<a/>") 2
+    -- another encoding
+    ∷ case (ascii "<?xml version='1.0' encoding='") [] (ascii "UTF-7'?><a/>") 2
+    ∷ case (ascii "<?xml version='1.0' encoding='") [] (ascii "UTF-16'?><a/>") 2
+    ∷ case (ascii "<?xml version='1.0' encoding='") [] (ascii "windows-1259'?><a/>") 2
+    ∷ case (ascii "<?xml version='1.0' encoding='windows-1252'?>") (ascii "<!--") (0xC3 ∷ 0xBC ∷ ascii "--><a/>") 2
+    ∷ case [] [] (0xFF ∷ 0xFE ∷ 0x3C ∷ 0 ∷ []) 2
+    ∷ case [] [] (0x3C ∷ 0 ∷ 0x61 ∷ 0 ∷ []) 2
     ∷ []
