@@ -12,7 +12,7 @@ use Rattle.error.specs.Read.{Said, passed, refused, read}
 use Rattle.checks.specs.declared.declaration.Quoted.{Quoted}
 use Rattle.checks.specs.declared.declaration.Quoted.the-variants.{Value, Refused}
 
--- what is said of a value: its two ends; or a number of document 01's table, and the place where it is met
+-- what is said of a value: its two ends; or a number of the table of docs/SCOPE.md, and the place where it is met
 pub data Value-said : Type 0 where
   spans : ℕ → ℕ → Value-said
   stops : ℕ → ℕ → Value-said

@@ -9,7 +9,7 @@ use Rattle.error.specs.declared.Answer.{Answer}
 use Rattle.error.specs.declared.Answer.the-variants.{At, No}
 use Rattle.error.specs.declared.Stop.{Stop}
 
--- what is said of a place in a text: how far was read; or a number of document 01's table, and the place where it is met
+-- what is said of a place in a text: how far was read; or a number of the table of docs/SCOPE.md, and the place where it is met
 pub data Said : Type 0 where
   passed : ℕ → Said
   refused : ℕ → ℕ → Said

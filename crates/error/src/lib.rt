@@ -1,4 +1,4 @@
-// error.rs: NotWellFormed as a number of document 01's table, and the answer of a reader.
+// error.rs: NotWellFormed as a number of the table of docs/SCOPE.md, and the answer of a reader.
 mod numbers;
 
 pub use numbers::number;

@@ -1,4 +1,4 @@
-// What an answer comes to: its number in document 01's table, alone or with its place.
+// What an answer comes to: its number in the table of docs/SCOPE.md, alone or with its place.
 use crate::Answer;
 use crate::Stop;
 ghost use mathlib.Core.Path.{_≡_};

@@ -17,7 +17,7 @@ use Rattle.gate.specs.declared.state.Docked.{Docked}
 unfoldable pub recorded : Gate → Record
 recorded g = record { started = g .started; seen = g .seen; «open» = g .«open»; refused = g .refused }
 
--- what each reply is in document 01: "open", or a number of its table
+-- what each reply is in docs/SCOPE.md: "open", or a number of its table
 abbrev pub replied : Reply → Says
 replied Open = says-open
 replied (Number n) = says n

@@ -1,4 +1,4 @@
-// The checks, which answer with a number of document 01's table.
+// The checks, which answer with a number of the table of docs/SCOPE.md.
 ghost use Rattle.spec.specs.Grammar.AppendixB.{appendix-B};
 ghost use Rattle.spec.specs.Grammar.Characters.{Chars};
 ghost use Rattle.spec.specs.Grammar.Names.{Name};

@@ -1,4 +1,4 @@
--- What each of the scan's cases is in document 01, and what the scan promises. Assumes nothing: these are definitions.
+-- What each of the scan's cases is in docs/SCOPE.md, and what the scan promises. Assumes nothing: these are definitions.
 use mathlib.Core.Path.{_≡_}
 use mathlib.Core.List.{List}
 use Prim.Native.Nat.{ℕ, zero, suc}

@@ -87,7 +87,7 @@ declaration-right w = promise declaration-agrees w _ refl
 pub ncname-right : (w : List ℕ) → Tells (NCName appendix-B) w (checked nothing w) (eqb (checked nothing w) 0 && is-ncname appendix-B w)
 ncname-right = tells (ncname-decides appendix-B appendix-B-ascii)
 
--- document 01's sixteen texts have the numbers that stand beside them
+-- The sixteen texts of docs/SCOPE.md have the numbers that stand beside them
 pub sixteen-rows : All Numbered rows
 sixteen-rows = Rows.rows-numbered
 

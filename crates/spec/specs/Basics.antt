@@ -12,6 +12,6 @@ pick false a b = b
 abbrev pub within : ℕ → ℕ → ℕ → Bool
 within lo hi n = leb lo n && leb n hi
 
--- the longest text that is looked at, in bytes; added by document 01 (1)
+-- the longest text that is looked at, in bytes: an addition of ours (1)
 abbrev pub limit : ℕ
 limit = 1_048_576

@@ -1,4 +1,4 @@
--- Tables of texts, with what is said of each row: document 01's sixteen texts and their numbers, texts with the places at which they are
+-- Tables of texts, with what is said of each row: the sixteen texts of docs/SCOPE.md and their numbers, texts with the places at which they are
 -- refused, and documents with their verdicts. That it holds of every row is a theorem on the page of demands. Assumes nothing.
 use mathlib.Core.List.{List, [], _∷_, _++_}
 use mathlib.Core.Bool.{true}

@@ -1,4 +1,4 @@
--- Which declarations of a DOCTYPE go unread: document 01, section "Reading". Assumes nothing.
+-- Which declarations of a DOCTYPE go unread: docs/SCOPE.md, "Reading". Assumes nothing.
 use mathlib.Core.Bool.{Bool, false, _||_}
 use mathlib.Core.List.{List, [], _∷_}
 use mathlib.Core.Path.{_≡_}

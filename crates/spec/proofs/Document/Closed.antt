@@ -96,7 +96,7 @@ closed-own s n {r} l o = closed (λ x v c f. go x v c (starts (ascii s) x) refl 
     go x v c true e f = own-after s n r Closing Closing o x v e f
     go x v c false e f = rw (starts-stands (ascii s) x v l c, e)
 
--- the readers of document 01's dtd.rs that a DOCTYPE's text calls
+-- the readers of dtd.rs that a DOCTYPE's text calls
 closed-quoted : (check : List ℕ → Result) → Closed Closing (parse-quoted check)
 unfolding parse-quoted
 closed-quoted check = closed-on "\"" refl (closed-own "\"" _ refl (own-up-to "\"" check)) (closed-own "'" _ refl (own-up-to "'" check))

@@ -1,4 +1,4 @@
--- The division of the internal subset into its entries: document 01, section "Reading". Assumes nothing.
+-- The division of the internal subset into its entries: docs/SCOPE.md, "Demand 3, word by word". Assumes nothing.
 use mathlib.Core.Bool.{Bool, true, false, _||_}
 use mathlib.Core.List.{List, [], _∷_}
 use Prim.Native.Nat.{ℕ, suc, _≤_, _<_}

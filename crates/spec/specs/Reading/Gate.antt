@@ -1,4 +1,4 @@
--- The gate, document 01's paragraph "Gate record": what `decl` and `doctype` answer, and what they leave in the record that their
+-- The gate, the paragraph "The gate's record" of docs/SCOPE.md: what `decl` and `doctype` answer, and what they leave in the record that their
 -- owner lends. The checks that they call are written elsewhere. Assumes nothing.
 use mathlib.Core.Bool.{Bool, true, _||_, not}
 use mathlib.Core.List.{List}

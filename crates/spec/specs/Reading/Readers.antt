@@ -19,7 +19,7 @@ pub data Result : Type 0 where
 abbrev pub Reader : Type 0
 Reader = List ℕ → Result
 
--- the number of an answer in document 01's table, and how many bytes it took
+-- the number of an answer in the table of docs/SCOPE.md, and how many bytes it took
 abbrev pub number-of : Result → ℕ
 number-of (ok k) = 0
 number-of (err r j) = number r

@@ -1,4 +1,4 @@
--- Refusals, and their numbers in document 01's table. Assumes nothing.
+-- Refusals, and their numbers in the table of docs/SCOPE.md. Assumes nothing.
 use Prim.Native.Nat.{ℕ}
 
 pub data Refusal : Type 0 where
