@@ -24,7 +24,7 @@ fn rust(call: &str) -> fn(&str) -> bool {
         "check_doctype" => raw::check_doctype,
         "check_declaration" => raw::check_declaration,
         "is_ncname" => raw::is_ncname,
-        "is_utf8" => |_| true,
+        "check_utf8" => |_| true,
         "scan" => |text| matches!(raw::scan(text), raw::Scan::Closed(_)),
         _ => panic!("no call {call}"),
     }
@@ -34,7 +34,7 @@ fn rust(call: &str) -> fn(&str) -> bool {
 fn ours(call: &str) -> Box<dyn Fn(&[u8]) -> bool> {
     match call {
         "is_ncname" => Box::new(|text| port::is_ncname(text, 0) == (0, 1)),
-        "is_utf8" => Box::new(|text| port::is_utf8(text) == 0),
+        "check_utf8" => Box::new(|text| port::check_utf8(text) == 0),
         "scan" => Box::new(|text| matches!(port::scan(text, 0, 0), (0, 2, _))),
         _ => {
             let (_, check) = *port::CHECKS

@@ -176,12 +176,12 @@ pub const OTHERS: &[(&str, Shape)] = &[
         "is_ncname",
         ("rare accent", |size| rare_accent(LETTERS, size)),
     ),
-    ("is_utf8", ("ASCII", typical)),
+    ("check_utf8", ("ASCII", typical)),
     (
-        "is_utf8",
+        "check_utf8",
         ("Greek and Han", |size| repeated(GREEK_HAN, size)),
     ),
-    ("is_utf8", ("rare accent", |size| rare_accent(WORDS, size))),
+    ("check_utf8", ("rare accent", |size| rare_accent(WORDS, size))),
     (
         "check_declaration",
         ("long version", |size| {

@@ -90,10 +90,10 @@ static void checks(void)
     CHECK(check_declaration, "xml version=\"1.0\"encoding=\"u\"", MOXKELDI_SPACE_REQUIRED);
     CHECK(check_declaration, "", MOXKELDI_UNEXPECTED);
 
-    CHECK(is_utf8, "", MOXKELDI_ACCEPTED);
-    CHECK(is_utf8, "\xf4\x8f\xbf\xbf", MOXKELDI_ACCEPTED);
-    CHECK(is_utf8, "\xed\xa0\x80", MOXKELDI_NOT_UTF8);
-    CHECK(is_utf8, "\xe6\x97", MOXKELDI_NOT_UTF8);
+    CHECK(check_utf8, "", MOXKELDI_ACCEPTED);
+    CHECK(check_utf8, "\xf4\x8f\xbf\xbf", MOXKELDI_ACCEPTED);
+    CHECK(check_utf8, "\xed\xa0\x80", MOXKELDI_NOT_UTF8);
+    CHECK(check_utf8, "\xe6\x97", MOXKELDI_NOT_UTF8);
 }
 
 typedef uint8_t check_at(const uint8_t *text, size_t len, size_t *place);
@@ -196,6 +196,45 @@ static void scans(void)
     }
 }
 
+/* Every call, on no bytes at no address: as on any text of length 0. */
+static void no_bytes(void)
+{
+    const struct {
+        const char *call;
+        check *function;
+        check_at *with_place;
+        uint8_t number;
+    } rows[] = {
+        {"check_chars", moxkeldi_check_chars, moxkeldi_check_chars_at, MOXKELDI_ACCEPTED},
+        {"check_text", moxkeldi_check_text, moxkeldi_check_text_at, MOXKELDI_ACCEPTED},
+        {"check_attr_value", moxkeldi_check_attr_value, moxkeldi_check_attr_value_at, MOXKELDI_ACCEPTED},
+        {"check_char_refs", moxkeldi_check_char_refs, moxkeldi_check_char_refs_at, MOXKELDI_ACCEPTED},
+        {"check_name", moxkeldi_check_name, moxkeldi_check_name_at, MOXKELDI_BAD_NAME},
+        {"check_doctype", moxkeldi_check_doctype, moxkeldi_check_doctype_at, MOXKELDI_BAD_NAME},
+        {"check_declaration", moxkeldi_check_declaration, moxkeldi_check_declaration_at, MOXKELDI_UNEXPECTED},
+        {"check_utf8", moxkeldi_check_utf8, NULL, MOXKELDI_ACCEPTED},
+    };
+    for (size_t k = 0; k < sizeof rows / sizeof rows[0]; k++) {
+        expect(rows[k].call, "NULL", rows[k].function(NULL, 0), rows[k].number);
+        if (rows[k].with_place != NULL) {
+            size_t place = 7777;
+            expect(rows[k].call, "NULL, with a place", rows[k].with_place(NULL, 0, &place), rows[k].number);
+            expect(rows[k].call, "NULL, the place", place, 0);
+        }
+    }
+    bool yes = true;
+    expect("is_ncname", "NULL", moxkeldi_is_ncname(NULL, 0, &yes), MOXKELDI_ACCEPTED);
+    expect("is_ncname, yes", "NULL", yes, false);
+    uint8_t answer = 77;
+    size_t place = 7777;
+    expect("scan", "NULL", moxkeldi_scan(NULL, 0, &answer, &place), MOXKELDI_ACCEPTED);
+    expect("scan, answer", "NULL", answer, MOXKELDI_SCAN_NOT_OPENED);
+    moxkeldi_gate gate = {0};
+    expect("decl", "NULL", moxkeldi_decl(&gate, NULL, 0), MOXKELDI_UNEXPECTED);
+    expect("doctype", "NULL", moxkeldi_doctype(&gate, MOXKELDI_PROLOG, NULL, 0), MOXKELDI_BAD_NAME);
+    expect("gate, refused", "NULL", gate.refused, 2);
+}
+
 /* Every call, one byte beyond the limit. */
 static void limit(void)
 {
@@ -205,7 +244,7 @@ static void limit(void)
         abort();
     memset(text, 'a', len + 1);
     check *const functions[] = {moxkeldi_check_chars,   moxkeldi_check_text,    moxkeldi_check_attr_value,  moxkeldi_check_char_refs,
-                                moxkeldi_check_name,    moxkeldi_check_doctype, moxkeldi_is_utf8,           moxkeldi_check_declaration};
+                                moxkeldi_check_name,    moxkeldi_check_doctype, moxkeldi_check_utf8,        moxkeldi_check_declaration};
     for (size_t k = 0; k < sizeof functions / sizeof functions[0]; k++) {
         bool no_text = functions[k] == moxkeldi_check_declaration;
         expect("limit", "at it", functions[k](text, len), no_text ? MOXKELDI_UNEXPECTED : MOXKELDI_ACCEPTED);
@@ -296,6 +335,7 @@ int main(void)
     depth();
     ncnames();
     scans();
+    no_bytes();
     limit();
     gates();
     printf("calls: %u passed, %u failed\n", passed, failed);

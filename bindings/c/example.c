@@ -9,31 +9,6 @@
 #include <stdio.h>
 #include <string.h>
 
-static const char *const words[] = {
-    [MOXKELDI_ACCEPTED] = "accepted",
-    [MOXKELDI_TOO_LONG] = "longer than 1,048,576 bytes",
-    [MOXKELDI_NOT_UTF8] = "not UTF-8",
-    [MOXKELDI_SPACE_REQUIRED] = "white space is required",
-    [MOXKELDI_BAD_NAME] = "a name, a token or a target is bad or missing",
-    [MOXKELDI_COLON] = "a colon where none may stand",
-    [MOXKELDI_LITERAL_MISSING] = "a quoted literal is missing",
-    [MOXKELDI_UNTERMINATED] = "a literal, a declaration, a comment, an instruction or the subset does not end",
-    [MOXKELDI_UNEXPECTED] = "another sign or word was expected",
-    [MOXKELDI_TRAILING] = "something is left over at the end",
-    [MOXKELDI_PUBLIC_ID] = "a character that a public identifier must not hold",
-    [MOXKELDI_RESERVED_TARGET] = "the target xml is reserved",
-    [MOXKELDI_DOUBLE_HYPHEN] = "-- in a comment",
-    [MOXKELDI_CONTENT_MODEL] = "mixed connectors in a content model, or a mixed model with names that does not end in )*",
-    [MOXKELDI_LESS_THAN] = "< in an attribute value or default",
-    [MOXKELDI_BAD_REFERENCE] = "a malformed character reference",
-    [MOXKELDI_ILLEGAL_REFERENCE] = "a reference to a character that XML does not allow",
-    [MOXKELDI_DECLARATION_VALUE] = "the value of version, encoding or standalone",
-    [MOXKELDI_ILLEGAL_CHARACTER] = "a character that XML does not allow",
-    [MOXKELDI_CDATA_END] = "]]> in text",
-    [MOXKELDI_TOO_DEEP] = "more than 64 open groups in a content model",
-    [MOXKELDI_OUT_OF_PLACE] = "the declaration is not first, or the DOCTYPE is a second one or not in the prolog",
-};
-
 /* A longer text is refused by its length alone, so one byte beyond the limit is all that has to be read. */
 static uint8_t text[MOXKELDI_LIMIT + 1];
 
@@ -65,8 +40,6 @@ int main(int argc, char **argv)
         puts("accepted");
         return 0;
     }
-    /* the table has every number; a library that answers with another is not the one this was made for */
-    const char *why = number < sizeof words / sizeof words[0] ? words[number] : "an unknown number";
-    printf("refused with %u at byte %zu: %s\n", (unsigned)number, place, why);
+    printf("refused with %u at byte %zu: %s\n", (unsigned)number, place, moxkeldi_words(number));
     return 1;
 }

@@ -28,7 +28,7 @@ unsafe extern "C" {
     fn moxkeldi_check_name_at(text: *const u8, len: usize, place: *mut usize) -> u8;
     fn moxkeldi_check_doctype_at(text: *const u8, len: usize, place: *mut usize) -> u8;
     fn moxkeldi_check_declaration_at(text: *const u8, len: usize, place: *mut usize) -> u8;
-    fn moxkeldi_is_utf8(text: *const u8, len: usize) -> u8;
+    fn moxkeldi_check_utf8(text: *const u8, len: usize) -> u8;
     fn moxkeldi_is_ncname(text: *const u8, len: usize, yes: *mut u8) -> u8;
     fn moxkeldi_scan(text: *const u8, len: usize, answer: *mut u8, place: *mut usize) -> u8;
     fn moxkeldi_decl(gate: *mut RawGate, text: *const u8, len: usize) -> u8;
@@ -65,8 +65,8 @@ pub fn stop(call: &str, text: &[u8]) -> Option<(u8, usize)> {
     Some((number, place))
 }
 
-pub fn is_utf8(text: &[u8]) -> u8 {
-    unsafe { moxkeldi_is_utf8(text.as_ptr(), text.len()) }
+pub fn check_utf8(text: &[u8]) -> u8 {
+    unsafe { moxkeldi_check_utf8(text.as_ptr(), text.len()) }
 }
 
 /// The number and what `*yes` holds after the call; it holds `before` before.
@@ -91,7 +91,7 @@ pub fn answer(call: &str, text: &[u8]) -> Option<String> {
         return Some(format!("{number}@{place}"));
     }
     Some(match call {
-        "utf8" => match is_utf8(text) {
+        "utf8" => match check_utf8(text) {
             0 => "0y".to_string(),
             number => format!("{number}n"),
         },

@@ -87,12 +87,12 @@ pub fn check_declaration(text: &[u8]) -> Result<(), Refusal> {
 /// The bytes are UTF-8, and at most [`LIMIT`] of them.
 ///
 /// ```
-/// use moxkeldi::{is_utf8, Refusal};
-/// assert_eq!(is_utf8("é".as_bytes()), Ok(()));
-/// assert_eq!(is_utf8(b"\xed\xa0\x80"), Err(Refusal::NotUtf8));
+/// use moxkeldi::{check_utf8, Refusal};
+/// assert_eq!(check_utf8("é".as_bytes()), Ok(()));
+/// assert_eq!(check_utf8(b"\xed\xa0\x80"), Err(Refusal::NotUtf8));
 /// ```
-pub fn is_utf8(text: &[u8]) -> Result<(), Refusal> {
-    verdict(sys::is_utf8(text))
+pub fn check_utf8(text: &[u8]) -> Result<(), Refusal> {
+    verdict(sys::check_utf8(text))
 }
 
 /// Whether the whole text is a name without a colon. Only [`Refusal::TooLong`] and [`Refusal::NotUtf8`] are errors here.

@@ -47,7 +47,7 @@ mod sys;
 
 pub use checks::{
     check_attr_value, check_char_refs, check_chars, check_declaration, check_doctype, check_name,
-    check_text, is_ncname, is_utf8, LIMIT,
+    check_text, check_utf8, is_ncname, LIMIT,
 };
 pub use gate::{Doctype, Gate, Phase};
 pub use places::{

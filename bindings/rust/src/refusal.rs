@@ -40,10 +40,10 @@ macro_rules! refusals {
 }
 
 refusals! {
-    /// The text is longer than [`LIMIT`](crate::LIMIT) bytes.
-    TooLong = 1, "longer than 1,048,576 bytes";
-    /// The bytes are not UTF-8.
-    NotUtf8 = 2, "not UTF-8";
+    /// The text is longer than [`LIMIT`](crate::LIMIT) bytes; of a document, its DOCTYPE is, or its prolog goes on beyond what is held.
+    TooLong = 1, "longer than 1,048,576 bytes, or a prolog that goes on beyond what is held";
+    /// The bytes are not UTF-8, or the document names another encoding.
+    NotUtf8 = 2, "not UTF-8, or another encoding is named";
     /// White space is required.
     SpaceRequired = 3, "white space is required";
     /// A name, a token or an instruction's target is bad or missing.
@@ -52,8 +52,8 @@ refusals! {
     Colon = 5, "a colon where none may stand";
     /// A quoted literal is missing.
     LiteralMissing = 6, "a quoted literal is missing";
-    /// A literal, a declaration, a comment, an instruction or the subset does not end.
-    Unterminated = 7, "a literal, a declaration, a comment, an instruction or the subset does not end";
+    /// A literal, a declaration, a comment, an instruction or the subset does not end, or a document ends before its root.
+    Unterminated = 7, "a literal, a declaration, a comment, an instruction or the subset does not end, or the text ends before the root";
     /// Another sign or word was expected; also a conditional section.
     Unexpected = 8, "another sign or word was expected";
     /// Something is left over at the end.
@@ -80,7 +80,7 @@ refusals! {
     CdataEnd = 19, "]]> in text";
     /// A 65th open group in a content model.
     TooDeep = 20, "more than 64 open groups in a content model";
-    /// Gate: the declaration is not first, a second DOCTYPE, or a DOCTYPE that is not in the prolog.
+    /// The XML declaration is not first, a second DOCTYPE, or a DOCTYPE that is not in the prolog.
     OutOfPlace = 21, "the declaration is not first, or the DOCTYPE is a second one or not in the prolog";
 }
 

@@ -59,7 +59,7 @@ mod c {
             len: usize,
             place: *mut usize,
         ) -> u8;
-        pub(super) fn moxkeldi_is_utf8(text: *const u8, len: usize) -> u8;
+        pub(super) fn moxkeldi_check_utf8(text: *const u8, len: usize) -> u8;
         pub(super) fn moxkeldi_is_ncname(text: *const u8, len: usize, yes: *mut u8) -> u8;
         pub(super) fn moxkeldi_scan(
             text: *const u8,
@@ -93,7 +93,7 @@ of_text! {
     check_name: moxkeldi_check_name;
     check_doctype: moxkeldi_check_doctype;
     check_declaration: moxkeldi_check_declaration;
-    is_utf8: moxkeldi_is_utf8;
+    check_utf8: moxkeldi_check_utf8;
 }
 
 macro_rules! of_text_at {

@@ -10,7 +10,7 @@ const CHECKS: [Check; 8] = [
     check_char_refs,
     check_name,
     check_doctype,
-    is_utf8,
+    check_utf8,
     check_declaration,
 ];
 
@@ -40,8 +40,8 @@ fn one_byte_more_is_too_long() {
 #[test]
 fn too_long_comes_before_not_utf8() {
     let text = vec![0xff; LIMIT + 1];
-    assert_eq!(is_utf8(&text), Err(Refusal::TooLong));
-    assert_eq!(is_utf8(&text[1..]), Err(Refusal::NotUtf8));
+    assert_eq!(check_utf8(&text), Err(Refusal::TooLong));
+    assert_eq!(check_utf8(&text[1..]), Err(Refusal::NotUtf8));
 }
 
 #[test]

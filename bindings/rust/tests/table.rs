@@ -143,7 +143,7 @@ fn empty_slices() {
     assert_eq!(check_text(empty), Ok(()));
     assert_eq!(check_attr_value(empty), Ok(()));
     assert_eq!(check_char_refs(empty), Ok(()));
-    assert_eq!(is_utf8(empty), Ok(()));
+    assert_eq!(check_utf8(empty), Ok(()));
     assert_eq!(check_name(empty), Err(Refusal::BadName));
     assert_eq!(check_doctype(empty), Err(Refusal::BadName));
     assert_eq!(check_declaration(empty), Err(Refusal::Unexpected));

@@ -4,13 +4,14 @@ use libc::STDOUT_FILENO;
 
 // A row for each number, in their order: the number in two places, two spaces, and its words. It is one text, and no arm of a `match` for
 // each number, since a function is proved in a time that grows with the square of its arms.
-const TABLE: [u8; 916] = *b" 1  longer than 1,048,576 bytes
- 2  not UTF-8
+const TABLE: [u8; 1026] =
+    *b" 1  longer than 1,048,576 bytes, or a prolog that goes on beyond what is held
+ 2  not UTF-8, or another encoding is named
  3  white space is required
  4  a name, a token or a target is bad or missing
  5  a colon where none may stand
  6  a quoted literal is missing
- 7  a literal, a declaration, a comment, an instruction or the subset does not end
+ 7  a literal, a declaration, a comment, an instruction or the subset does not end, or the text ends before the root
  8  another sign or word was expected
  9  something is left over at the end
 10  a character that a public identifier must not hold

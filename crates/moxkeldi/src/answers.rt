@@ -8,9 +8,9 @@ ghost use Rattle.spec.specs.Grammar.Names.{NCName};
 ghost use Rattle.spec.specs.Promises.{Tells};
 ghost use Rattle.moxkeldi.specs.Boundary.{ScansInto};
 
-// 0 is yes.
+// One of 0, 1 and 2, so that 0 says yes.
 #[no_mangle]
-pub extern "C" fn moxkeldi_is_utf8(text: &[u8]) -> u8
+pub extern "C" fn moxkeldi_check_utf8(text: &[u8]) -> u8
     ensures { λ r. ⌜ Tells Text (now (text .entry)) r (eqb r 0) ⌝ }
 {
     source::admit(text)
