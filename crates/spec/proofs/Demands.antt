@@ -19,6 +19,7 @@ use Rattle.spec.specs.Promises.{Checks, Stops, Tells, Covered, expected}
 use Rattle.spec.specs.Reading.Checks.{check-declaration, is-ncname}
 use Rattle.spec.specs.Reading.Document.{legal-length}
 use Rattle.spec.specs.Reading.Dtd.{check-doctype}
+use Rattle.spec.specs.Reading.Entries.{declarations}
 use Rattle.spec.specs.Reading.Prolog.{declaration, doctype, doctype-end, next-item}
 use Rattle.spec.specs.Reading.Readers.{ok, err, Reader, nothing}
 use Rattle.spec.specs.Reading.Refusals.{Refusal}
@@ -28,6 +29,7 @@ use Rattle.spec.specs.Reading.Source.{admit, checked, checked-at}
 use Rattle.spec.specs.Reading.Verdict.{accepted, refused, number-in, place-in, opened-in, doctype-in, encoding-read, mark-length, unmarked, moved, check-document}
 use Rattle.spec.specs.Reading.Wellformed.{illegal-here, check-chars, check-char-refs, check-text, check-attr-value, check-name}
 use Rattle.spec.specs.Rows.{All, Numbered, rows, Met, spots, Judged, cases}
+use Rattle.spec.specs.Unread.{unread-entries, CountsUnread}
 use Rattle.spec.specs.Conditions.{Sided, samples, Limited, sizes, Ascii, alphabets}
 use Rattle.spec.specs.Grammar.Languages.{Lang, ascii, Ch, Star}
 use Rattle.spec.proofs.Agreement.Accepts.{promise, tells}
@@ -36,6 +38,7 @@ use Rattle.spec.proofs.Checks.NCNames.{ncname-decides}
 use Rattle.spec.proofs.Checks.XmlDecl.{declaration-agrees}
 use Rattle.spec.proofs.Division.Places.{divided, apart, one-division}
 use Rattle.spec.proofs.Division.Promised.{cuts-covered}
+use Rattle.spec.proofs.Division.Unread.{unread-counted}
 use Rattle.spec.proofs.Document.Agrees.{one-prolog}
 use Rattle.spec.proofs.Document.Encoding.{encoding-right}
 use Rattle.spec.proofs.Document.Legal.{legal-takes}
@@ -110,6 +113,10 @@ not-both = apart appendix-B appendix-B-ascii
 
 pub one-way-only : (w : List ℕ) (a b : Division appendix-B w) → (a .entries ≡ b .entries) × (a .opening ≡ b .opening) × (a .closing ≡ b .closing)
 one-way-only = one-division appendix-B appendix-B-ascii
+
+-- How many declarations of a DOCTYPE go unread: as many as do among the entries that the order of reading meets.
+pub unread-right : (t : List ℕ) → CountsUnread appendix-B t (length (unread-entries appendix-B t false (declarations appendix-B t)))
+unread-right = unread-counted appendix-B appendix-B-ascii
 
 -- Wherever a text is cut that demand 3 speaks of, the scan says of the front part whether the subset's '[' and the ']' that closes it
 -- are in it, and names that ']'; of a text without a subset it says "not opened".

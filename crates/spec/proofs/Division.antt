@@ -3,10 +3,10 @@ pub mod Quoting
 pub mod Parts
 pub mod FrontParts
 pub mod Clear
-pub mod Divide
 pub mod Scans
 pub mod Parting
-pub mod Divides
+pub mod Delimited
 pub mod Places
 pub mod Covers
+pub mod Unread
 pub mod Promised

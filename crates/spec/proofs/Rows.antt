@@ -91,6 +91,7 @@ use Rattle.spec.specs.Reading.Dtd.{
   doctype-before,
   check-doctype,
 }
+use Rattle.spec.specs.Reading.Entries.{kind-at, entries-fuel, entries-from, declarations}
 use Rattle.spec.specs.Reading.Checks.{all-of, is-version-num, is-enc-name, is-yes-or-no, valued, parse-eq-quoted, pseudo-attr, check-declaration}
 use Rattle.spec.specs.Premise.{bare, quiet}
 use Rattle.spec.specs.Promises.{Checks}
@@ -102,7 +103,6 @@ use Rattle.spec.proofs.Agreement.Accepts.{Agrees, promise}
 use Rattle.spec.proofs.Characters.AppendixB.{appendix-B-ascii}
 use Rattle.spec.proofs.Checks.XmlDecl.{declaration-agrees}
 use Rattle.spec.proofs.Division.Covers.{covers, covered-yes, covered-derived, covered-covers}
-use Rattle.spec.proofs.Division.Divide.{kind-at, divide}
 use Rattle.spec.proofs.Dtd.Texts.{doctype-agrees}
 use Rattle.spec.proofs.Characters.Text.{all-ascii, ascii-text}
 use Rattle.spec.proofs.Inside.Checks.{Placed, doctype-placed, declaration-placed}
@@ -195,7 +195,7 @@ unfolding
     skip-s require-s parse-quoted check-pubid parse-external-id check-att-value check-comment parse-comment outside take-decl-body reserved after connector connected group-of
     occurs bar-list word-among parse-default-decl on-quote second-literal nmtoken ncname parse-pe-reference has-pe-reference check-target check-pi parse-pi parse-mixed
     cp-of parse-group parse-children parse-contentspec parse-element-decl parse-att-type parse-att-def parse-attlist-decl ndata parse-entity-decl parse-notation-decl
-    finish-decl parse-markup-decl subset-fuel parse-internal-subset doctype-before check-doctype kind-at divide bare quiet all-of is-version-num valued parse-eq-quoted pseudo-attr check-declaration is-enc-name is-yes-or-no
+    finish-decl parse-markup-decl subset-fuel parse-internal-subset doctype-before check-doctype kind-at entries-fuel entries-from declarations bare quiet all-of is-version-num valued parse-eq-quoted pseudo-attr check-declaration is-enc-name is-yes-or-no
     at-most closing is-declaration read-declaration item-here read-item read-misc read-doctype-text read-doctype read-opening read-ending read-prolog read-other read-tag read-beginning legal-length find-doctype
     in-declaration unended sign-at end-refusal verdict-in read-version read-encoding encoding-in find-encoding encoding-read verdict mark-length check-document coding-of looks-like
 all-computed = refl

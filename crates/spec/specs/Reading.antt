@@ -8,6 +8,7 @@ pub mod Wellformed
 pub mod Dtd
 pub mod Checks
 pub mod Scan
+pub mod Entries
 pub mod Gate
 pub mod Document
 pub mod Verdict

@@ -30,7 +30,7 @@ use Rattle.spec.proofs.Agreement.Signs.{kind, Class, _∪_, sub-refl, b
 use Rattle.spec.proofs.Agreement.Words.{first-of, starts-lit}
 use Rattle.spec.proofs.Base.Results.{ok-inj}
 use Rattle.spec.proofs.Division.Clear.{clear-front}
-use Rattle.spec.proofs.Division.Divide.{kind-at}
+use Rattle.spec.specs.Reading.Entries.{kind-at}
 use Rattle.spec.proofs.Base.Outside.{at-inj}
 use Rattle.spec.proofs.Division.Parts.{Filling, last, next, entries, Parts, Divided-parts, One-parts}
 use Rattle.spec.proofs.Division.Scans.{found-after}

@@ -14,11 +14,11 @@ use Rattle.spec.specs.Grammar.Names.{Dialect, AsciiNames}
 use Rattle.spec.specs.Premise.{promised, bare, premised, premise}
 use Rattle.spec.specs.Reading.Readers.{past}
 use Rattle.spec.specs.Grammar.Doctype.{doctypedecl}
+use Rattle.spec.specs.Reading.Entries.{from-open, declarations}
 use Rattle.spec.specs.Reading.Places.{at, nowhere, outside}
 use Rattle.spec.specs.Reading.Scan.{scan, subset-open}
 use Rattle.spec.proofs.Division.Clear.{clear-front}
-use Rattle.spec.proofs.Division.Divide.{divide}
-use Rattle.spec.proofs.Division.Divides.{parts-read}
+use Rattle.spec.proofs.Division.Delimited.{parts-declare}
 use Rattle.spec.proofs.Base.Outside.{nowhere-at}
 use Rattle.spec.proofs.Division.Parting.{divided-parts, one-parts}
 use Rattle.spec.proofs.Division.Parts.{Filling, last, next, entries, Parts, open-at, close-at, list-of, Premise, Cuts-parts}
@@ -225,11 +225,13 @@ module _ (D : Dialect) (A : AsciiNames D) where
       let (l, m, n) = one-parts D A w (a .parts) (b .parts) in
       (sym (a .entries) ∙ l ∙ b .entries, sym (a .opening) ∙ m ∙ b .opening, sym (a .closing) ∙ n ∙ b .closing)
 
-  -- the list of the one division is the one that the order of reading meets
-  pub list-read : (w : List ℕ) (v : Division D w) → divide D (length w) false (suc (v .opening)) (drop (suc (v .opening)) w) ≡ v .entries
-  list-read w v =
-      let m : Same v = parts-of v in
-      ap (λ (n : ℕ). divide D (length w) false (suc n) (drop (suc n) w)) (sym (m .opening)) ∙ parts-read D A w (m .parts) ∙ m .entries
+  -- the entries that the order of reading meets are those of the one division, and none where there is no subset
+  pub front-declares : (w : List ℕ) → Front D w → declarations D w ≡ []
+  unfolding declarations
+  front-declares w f = ap (from-open D w) (unopened w f)
+
+  pub division-declares : (w : List ℕ) (v : Division D w) → declarations D w ≡ v .entries
+  division-declares w v = let m : Same v = parts-of v in parts-declare D A w (m .parts) ∙ m .entries
 
   pub cuts : Cuts D bare
   cuts = from-parts bare (cuts-parts D A)

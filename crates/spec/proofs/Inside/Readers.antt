@@ -15,6 +15,7 @@ use Rattle.spec.specs.Grammar.Names.{Dialect}
 use Rattle.spec.specs.Grammar.References.{digit, hex-digit, value-on}
 use Rattle.spec.specs.Reading.Checks
 use Rattle.spec.specs.Reading.Dtd
+use Rattle.spec.specs.Reading.Entries.{one-entry}
 use Rattle.spec.specs.Reading.Places.{Place, at, nowhere, outside}
 use Rattle.spec.specs.Reading.Readers.{Result, ok, err, Reader, stop-of, on-ok, nothing, starts, run, contains, before}
 use Rattle.spec.specs.Reading.Refusals.{has-colon, reserved-target, unterminated, bad-pubid, bad-reference, illegal-reference}
@@ -251,6 +252,9 @@ module _ (D : Dialect) where
       (in-on "<!ATTLIST" (in-word "<!ATTLIST" _ then finish b attlist-decl)
       (in-on "<!ENTITY" (in-word "<!ENTITY" _ then finish b entity-decl)
       (in-word "<!NOTATION" _ then finish b notation-decl))))))
+
+  pub in-entry : Inside (one-entry D)
+  in-entry = in-on "%" pe-reference (markup-decl true)
 
   subset : (d : ℕ) (b : Bool) → Inside (Dtd.subset-fuel D d b)
   unfolding Dtd.subset-fuel
