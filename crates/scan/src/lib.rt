@@ -6,3 +6,4 @@ pub use calls::Scanned;
 pub use calls::scan;
 pub use calls::scan_admitted;
 pub use subset::internal_subset_end;
+pub use subset::subset_open;
