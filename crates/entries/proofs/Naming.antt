@@ -1,6 +1,6 @@
 -- Laws of an entry's kind and end. Assumes nothing.
-use mathlib.Core.Path.{_≡_, refl, sym, _∙_}
-use mathlib.Core.Bool.{Bool, true, false, or-false, or-true}
+use mathlib.Core.Path.{_≡_, sym, _∙_}
+use mathlib.Core.Bool.{Bool, true, false}
 use mathlib.Core.List.{List}
 use Prim.Native.Nat.{ℕ}
 use borrow.Author.Needs.{needs}
@@ -48,7 +48,7 @@ module _ (s : List ℕ) (at : ℕ) (t₁ : Bool) (e₁ : t₁ ≡ starts (ascii 
             unfolding kind-of kind-at
             kind-reference f = rw (sym e₁ ∙ f₁, sym e₂ ∙ f₂, sym e₃ ∙ f₃, sym e₄ ∙ f₄, sym e₅ ∙ f₅, sym e₆ ∙ f)
 
--- what is asked of a kind, case by case
+-- what is asked of a kind, case by case; each case computes
 module _ (kind k : Kind) (e : kind ≡ k) where
   pub size-is : (n : ℕ) → n ≡ keyword-size (kind-of k) → n ≡ keyword-size (kind-of kind)
   size-is n f = rw (e, f)
@@ -56,67 +56,8 @@ module _ (kind k : Kind) (e : kind ≡ k) where
   pub referred-is : (pe t : Bool) → t ≡ referred pe (kind-of k) → t ≡ referred pe (kind-of kind)
   referred-is pe t f = rw (e, f)
 
-pub size-element : 9 ≡ keyword-size (kind-of Element)
-unfolding kind-of keyword-size
-size-element = refl
-
-pub size-attlist : 9 ≡ keyword-size (kind-of Attlist)
-unfolding kind-of keyword-size
-size-attlist = refl
-
-pub size-entity : 8 ≡ keyword-size (kind-of Entity)
-unfolding kind-of keyword-size
-size-entity = refl
-
-pub size-notation : 10 ≡ keyword-size (kind-of Notation)
-unfolding kind-of keyword-size
-size-notation = refl
-
-pub size-instruction : 0 ≡ keyword-size (kind-of Instruction)
-unfolding kind-of keyword-size
-size-instruction = refl
-
-pub size-comment : 0 ≡ keyword-size (kind-of Comment)
-unfolding kind-of keyword-size
-size-comment = refl
-
-pub size-reference : 0 ≡ keyword-size (kind-of Reference)
-unfolding kind-of keyword-size
-size-reference = refl
-
-module _ (pe : Bool) where
-  pub referred-element : pe ≡ referred pe (kind-of Element)
-  unfolding kind-of referred
-  referred-element = sym (or-false pe)
-
-  pub referred-attlist : pe ≡ referred pe (kind-of Attlist)
-  unfolding kind-of referred
-  referred-attlist = sym (or-false pe)
-
-  pub referred-entity : pe ≡ referred pe (kind-of Entity)
-  unfolding kind-of referred
-  referred-entity = sym (or-false pe)
-
-  pub referred-notation : pe ≡ referred pe (kind-of Notation)
-  unfolding kind-of referred
-  referred-notation = sym (or-false pe)
-
-  pub referred-instruction : pe ≡ referred pe (kind-of Instruction)
-  unfolding kind-of referred
-  referred-instruction = sym (or-false pe)
-
-  pub referred-comment : pe ≡ referred pe (kind-of Comment)
-  unfolding kind-of referred
-  referred-comment = sym (or-false pe)
-
-  pub referred-reference : true ≡ referred pe (kind-of Reference)
-  unfolding kind-of referred
-  referred-reference = sym (or-true pe)
-
 pub ruleset kinds = (kind-instruction, kind-comment, kind-element, kind-attlist, kind-entity, kind-notation, kind-reference, needs)
 
 pub ruleset ends = (chain, needs)
 
-pub ruleset sizes = (size-is, size-element, size-attlist, size-entity, size-notation, size-instruction, size-comment, size-reference, needs)
-
-pub ruleset referring = (referred-is, referred-element, referred-attlist, referred-entity, referred-notation, referred-instruction, referred-comment, referred-reference, needs)
+pub ruleset sizes = (size-is, referred-is, needs)

@@ -1,8 +1,8 @@
 -- Laws of the walk from one unread declaration to the next. Assumes nothing.
 use mathlib.Core.Path.{_≡_, refl, sym, _∙_, ap}
-use mathlib.Core.Bool.{Bool, true, false, _||_, true≢false, or-false}
+use mathlib.Core.Bool.{Bool, true, false, _||_, true≢false, or-false, or-comm}
 use mathlib.Core.List.{List, [], _∷_}
-use Prim.Native.Nat.{ℕ, zero, suc, _+_, _-_, _^_, _≤_, _<_}
+use Prim.Native.Nat.{ℕ, _+_, _-_, _^_, _≤_, _<_}
 use native.Mathlib.Omega.{arith}
 use borrow.Author.Needs.{needs}
 use mir.Syntax.{w64}
@@ -16,7 +16,7 @@ use Rattle.spec.specs.Grammar.Languages.{ascii}
 use Rattle.spec.specs.Grammar.Names.{Dialect}
 use Rattle.spec.specs.Reading.Dtd.{has-pe-reference}
 use Rattle.spec.specs.Reading.Entries.{kind-at, one-entry, entries-from}
-use Rattle.spec.specs.Reading.Readers.{ok, run, stop-of}
+use Rattle.spec.specs.Reading.Readers.{ok, run}
 use Rattle.spec.specs.Unread.{body-of, goes-unread, unread-entries}
 use Rattle.spec.proofs.Base.Places.{drop-take}
 use Rattle.spec.proofs.Division.Delimited.{entry-some, from-some, from-none}
@@ -27,7 +27,7 @@ use Rattle.error.specs.declared.Answer.{Answer}
 use Rattle.error.specs.declared.Answer.the-variants.{At, No}
 use Rattle.error.proofs.Laws.{was-ok, was-err}
 use Rattle.entries.specs.Kinds.{kind-of, keyword-size, referred}
-use Rattle.entries.specs.Walk.{Holds, unread-there, unread-from, first-among, first-from, listed-by, Finds}
+use Rattle.entries.specs.Walk.{Holds, unread-there, unread-from, first-among, first-from, Finds}
 use Rattle.entries.specs.declared.kinds.Kind as Code
 use Rattle.entries.specs.declared.walk.Unread.{Unread}
 use Rattle.entries.specs.declared.walk.Unread.the-variants.{Here, NoMore}
@@ -197,7 +197,7 @@ module _ (D : Dialect) (s : List ℕ) (i here : ℕ) (h : here ≡ i + run space
         module _ (z : u ≡ false) (pe' : Bool) (q : pe' ≡ referred pe (kind-of kind)) where
           on : pe' ≡ (pe || refers (kind-at (drop here s)))
           unfolding referred
-          on = q ∙ (rw g)
+          on = q ∙ (rw g) ∙ or-comm (refers (kind-at (drop here s))) pe
 
           pub walk-first : (F : Unread) → first-from D s pe i ≡ F → first-from D s pe' j ≡ F
           unfolding first-from

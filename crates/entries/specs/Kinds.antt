@@ -23,4 +23,4 @@ keyword-size k = length (ascii (keyword k))
 
 -- whether a parameter-entity reference came before what follows an entry of this kind, by whether one came before it
 unfoldable pub referred : Bool → Division.Kind → Bool
-referred pe k = pe || refers k
+referred pe k = refers k || pe
