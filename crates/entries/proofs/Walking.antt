@@ -35,6 +35,10 @@ use Rattle.entries.specs.declared.walk.Unread.the-variants.{Here, NoMore
 none-here : {f p : ℕ} {used : Bool} → NoMore ≡ Here f p used → ⊥
 none-here e = let z : _≡_ {A = ℕ} 0 1 = cc in omega arith
 
+-- The promise fixes the answer.
+pub fixed : (D : Dialect) (s : List ℕ) (pe : Bool) (i : ℕ) (r r' : Unread) → Finds D s pe i r → Finds D s pe i r' → r ≡ r'
+fixed D s pe i r r' a b = a .answer ∙ sym (b .answer)
+
 -- what goes unread is no reference
 unread-refers : (D : Dialect) (pe : Bool) (k : Kind) (y : List ℕ) → goes-unread D pe k y ≡ true → refers k ≡ false
 unread-refers D pe element y e = refl
