@@ -1,163 +1,171 @@
 -- Lines and columns: what one more byte does to them. Assumes nothing.
 use mathlib.Core.Path.{_≡_, refl, sym, ap, _∙_}
-use mathlib.Core.Bool.{Bool, true, false, _&&_, _||_, not}
+use mathlib.Core.Bool.{Bool, true, false, _&&_, not, and-true, and-false, and-assoc}
 use mathlib.Core.List.{List, [], _∷_, _++_}
-use Prim.Native.Nat.{ℕ, suc, _+_, _*_, _^_, _<_, _≤_}
+use Prim.Native.Nat.{ℕ, suc, compare·suc-suc, _+_, _-_, _*_, _^_, _<_, _≤_}
 use native.Mathlib.Numerals.{add-one}
 use native.Mathlib.Omega.{arith}
 use borrow.Author.Needs.{needs}
 use mir.Syntax.{w64}
 use mir.Val.{Fits}
 use lib.Dec.{eqb}
-use lib.ListN.{length, getD, take}
-use lib.Seq.{take-suc, take-all, length-take-le}
+use lib.ListN.{length, getD, take, drop, length-take}
+use lib.Seq.{take-suc, take-all, take-nil, length-take-le}
 use Rattle.spec.specs.Basics.{pick}
-use Rattle.spec.specs.Reading.Readers.{starts, contains}
-use Rattle.spec.proofs.Agreement.Words.{contains-at}
-use Rattle.spec.proofs.Base.Tests.{eqb-yes, eqb-no}
-use Rattle.lines.specs.Lines.{count, newline, continues, last-line, line, column}
+use Rattle.spec.specs.Reading.Checks.{all-of}
+use Rattle.spec.specs.Reading.Readers.{run}
+use Rattle.spec.proofs.Base.Places.{drop-at, drop-end}
+use Rattle.spec.proofs.Base.Tests.{eqb-no, not-true, not-false}
+use Rattle.lines.specs.Lines.{ends-line, line-ends, on-line, last-line, continues, characters, line, column}
 
--- a byte more at the end
-count-snoc : (p : ℕ → Bool) (u : List ℕ) (b : ℕ) → count p (u ++ (b ∷ [])) ≡ pick (p b) (suc (count p u)) (count p u)
-unfolding count
-count-snoc p [] b = refl
-count-snoc p (a ∷ u) b = go (p a) (p b) (count-snoc p u b)
+-- of each there are no more than there are bytes
+ends-short : (a : ℕ) (w : List ℕ) → line-ends a w ≤ length w
+unfolding line-ends
+ends-short a [] = omega arith
+ends-short a (b ∷ w) = go (ends-line a b) (ends-short b w)
   where
-    go : (x y : Bool) → count p (u ++ (b ∷ [])) ≡ pick y (suc (count p u)) (count p u)
-        → pick x (suc (count p (u ++ (b ∷ [])))) (count p (u ++ (b ∷ []))) ≡ pick y (suc (pick x (suc (count p u)) (count p u))) (pick x (suc (count p u)) (count p u))
-    go true true e = ap suc e
-    go true false e = ap suc e
-    go false true e = e
-    go false false e = e
+    go : (t : Bool) → line-ends b w ≤ length w → pick t (suc (line-ends b w)) (line-ends b w) ≤ suc (length w)
+    go true h = omega arith
+    go false h = omega arith
 
--- of a class there are no more than there are
-count-short : (p : ℕ → Bool) (w : List ℕ) → count p w ≤ length w
-unfolding count
-count-short p [] = omega arith
-count-short p (b ∷ w) = go (p b) (count-short p w)
+characters-short : (w : List ℕ) → characters w ≤ length w
+unfolding characters
+characters-short [] = omega arith
+characters-short (b ∷ w) = go (continues b) (characters-short w)
   where
-    go : (t : Bool) → count p w ≤ length w → pick t (suc (count p w)) (count p w) ≤ suc (length w)
+    go : (t : Bool) → characters w ≤ length w → pick t (characters w) (suc (characters w)) ≤ suc (length w)
     go true h = omega arith
     go false h = omega arith
 
 last-short : (w : List ℕ) → length (last-line w) ≤ length w
 unfolding last-line
 last-short [] = omega arith
-last-short (b ∷ w) = go (contains (10 ∷ []) (b ∷ w)) (last-short w)
+last-short (b ∷ w) = go (all-of on-line (b ∷ w)) (last-short w)
   where
-    go : (t : Bool) → length (last-line w) ≤ length w → length (pick t (last-line w) (b ∷ w)) ≤ suc (length w)
+    go : (t : Bool) → length (last-line w) ≤ length w → length (pick t (b ∷ w) (last-line w)) ≤ suc (length w)
     go true h = omega arith
     go false h = omega arith
 
--- after a newline a line begins; any other byte stands on the line before it
-last-newline : (u : List ℕ) → last-line (u ++ (10 ∷ [])) ≡ []
-unfolding last-line contains starts
-last-newline [] = refl
-last-newline (a ∷ u) = go (contains-at 10 [] (a ∷ u) []) (last-newline u)
+front-short : (n : ℕ) (w : List ℕ) → length (take n w) ≤ length w
+front-short n w = omega (arith, length-take n w)
+
+-- LINES. The invariant: the lines before i, of which the last byte is a, and those that end from there on, are all that there are.
+module _ (s : List ℕ) (at i a n : ℕ) (inv : n + line-ends a (take (at - i) (drop i s)) ≡ line s at) where
+  pub line-there : at ≤ i → n ≡ line s at
+  unfolding line-ends
+  line-there h = let z : at - i ≡ 0 = omega arith in let e = (rw z at inv) in omega arith
+
+  pub line-end : length s ≤ i → n ≡ line s at
+  unfolding line-ends
+  line-end h = let e = (rw (drop-end s i h, take-nil (at - i)) at inv) in omega arith
+
+  module _ (h : i < length s) (g : i < at) (t : Bool) (e : t ≡ ends-line a (getD s i 0)) where
+    turned : (b : Bool) → t ≡ b → n + pick b (suc (line-ends (getD s i 0) (take (at - (i + 1)) (drop (i + 1) s)))) (line-ends (getD s i 0) (take (at - (i + 1)) (drop (i + 1) s))) ≡ line s at
+    unfolding line-ends
+    turned b f = let z : at - i ≡ suc (at - (i + 1)) = omega arith in (rw (drop-at s i h, z, sym e ∙ f) at inv)
+
+    pub line-ended : t ≡ true → n + 1 + line-ends (getD s i 0) (take (at - (i + 1)) (drop (i + 1) s)) ≡ line s at
+    line-ended f = let z = turned true f in omega arith
+
+    pub line-on : t ≡ false → n + line-ends (getD s i 0) (take (at - (i + 1)) (drop (i + 1) s)) ≡ line s at
+    line-on f = turned false f
+
+    pub line-fits : t ≡ true → length s * 1 < 2 ^ 63 → Fits w64 (n + 1)
+    unfolding line
+    line-fits f l = let z = turned true f in let k = ends-short 0 (take at s) in let m = front-short at s in omega arith
+
+pub line-start : (s : List ℕ) (at : ℕ) → 1 + line-ends 0 (take (at - 0) (drop 0 s)) ≡ line s at
+unfolding line
+line-start s at = let z : at - 0 ≡ at = omega arith in rw z
+
+-- COLUMNS. A byte more at the end:
+all-one : (b : ℕ) (w : List ℕ) → all-of on-line (b ∷ w) ≡ (on-line b && all-of on-line w)
+unfolding all-of run
+all-one b w = go (on-line b)
   where
-    go : contains (10 ∷ []) (a ∷ (u ++ (10 ∷ []))) ≡ true → last-line (u ++ (10 ∷ [])) ≡ []
-        → pick (contains (10 ∷ []) (a ∷ (u ++ (10 ∷ [])))) (last-line (u ++ (10 ∷ []))) (a ∷ (u ++ (10 ∷ []))) ≡ []
-    go e f = rw (e, f)
+    go : (t : Bool) → eqb (pick t (suc (run on-line w)) 0) (suc (length w)) ≡ (t && eqb (run on-line w) (length w))
+    go true = rw compare·suc-suc
+    go false = eqb-no 0 (suc (length w)) (λ (e : 0 ≡ suc (length w)). omega arith)
 
-contains-other : (b : ℕ) → (b ≡ 10 → ⊥) → (u : List ℕ) → contains (10 ∷ []) (u ++ (b ∷ [])) ≡ contains (10 ∷ []) u
-unfolding contains starts
-contains-other b n [] = rw (eqb-no b 10 n)
-contains-other b n (a ∷ u) = ap (λ (t : Bool). (eqb a 10 && true) || t) (contains-other b n u)
+all-snoc : (u : List ℕ) (b : ℕ) → all-of on-line (u ++ (b ∷ [])) ≡ (all-of on-line u && on-line b)
+unfolding all-of run
+all-snoc [] b = all-one b [] ∙ and-true (on-line b)
+all-snoc (a ∷ u) b = all-one a (u ++ (b ∷ [])) ∙ (rw (all-snoc u b)) ∙ sym (and-assoc (on-line a) (all-of on-line u) (on-line b)) ∙ (rw (all-one a u))
 
-last-one : (b : ℕ) → (b ≡ 10 → ⊥) → last-line (b ∷ []) ≡ b ∷ []
-unfolding last-line contains starts
-last-one b n = rw (eqb-no b 10 n)
-
-last-other : (b : ℕ) → (b ≡ 10 → ⊥) → (u : List ℕ) → last-line (u ++ (b ∷ [])) ≡ last-line u ++ (b ∷ [])
+-- it begins a line,
+last-break : (b : ℕ) → on-line b ≡ false → (u : List ℕ) → last-line (u ++ (b ∷ [])) ≡ []
 unfolding last-line
-last-other b n [] = last-one b n
-last-other b n (a ∷ u) = go (contains (10 ∷ []) (a ∷ u)) (contains-other b n (a ∷ u)) (last-other b n u)
+last-break b f [] = rw (all-one b [], f)
+last-break b f (a ∷ u) = rw (all-snoc (a ∷ u) b, f, and-false (all-of on-line (a ∷ u))) (last-break b f u)
+
+-- or it stands on the line before it
+last-other : (b : ℕ) → on-line b ≡ true → (u : List ℕ) → last-line (u ++ (b ∷ [])) ≡ last-line u ++ (b ∷ [])
+unfolding last-line all-of run
+last-other b f [] = rw (all-one b [], f)
+last-other b f (a ∷ u) = go (all-of on-line (a ∷ u)) (all-snoc (a ∷ u) b ∙ (rw (f, and-true (all-of on-line (a ∷ u))))) (last-other b f u)
   where
-    go : (t : Bool) → contains (10 ∷ []) (a ∷ (u ++ (b ∷ []))) ≡ t → last-line (u ++ (b ∷ [])) ≡ last-line u ++ (b ∷ [])
-        → pick (contains (10 ∷ []) (a ∷ (u ++ (b ∷ [])))) (last-line (u ++ (b ∷ []))) (a ∷ (u ++ (b ∷ []))) ≡ pick t (last-line u) (a ∷ u) ++ (b ∷ [])
-    go true e f = rw (e, f)
-    go false e f = rw e
+    go : (t : Bool) → all-of on-line (a ∷ (u ++ (b ∷ []))) ≡ t → last-line (u ++ (b ∷ [])) ≡ last-line u ++ (b ∷ [])
+        → pick (all-of on-line (a ∷ (u ++ (b ∷ [])))) (a ∷ (u ++ (b ∷ []))) (last-line (u ++ (b ∷ []))) ≡ pick t (a ∷ u) (last-line u) ++ (b ∷ [])
+    go true e f = rw e
+    go false e f = rw (e, f)
+
+characters-snoc : (u : List ℕ) (b : ℕ) → characters (u ++ (b ∷ [])) ≡ pick (continues b) (characters u) (suc (characters u))
+unfolding characters
+characters-snoc [] b = refl
+characters-snoc (a ∷ u) b = go (continues a) (continues b) (characters-snoc u b)
+  where
+    go : (x y : Bool) → characters (u ++ (b ∷ [])) ≡ pick y (characters u) (suc (characters u))
+        → pick x (characters (u ++ (b ∷ []))) (suc (characters (u ++ (b ∷ [])))) ≡ pick y (pick x (characters u) (suc (characters u))) (suc (pick x (characters u) (suc (characters u))))
+    go true true e = e
+    go true false e = e
+    go false true e = ap suc e
+    go false false e = ap suc e
 
 -- the bytes before the next place
 next : (s : List ℕ) (i : ℕ) → i < length s → take (i + 1) s ≡ take i s ++ (getD s i 0 ∷ [])
 next s i h = rw add-one (take-suc s i 0 h)
 
--- the place is reached, or the end: of a rule that looks only at what stands before a place
-until : (f : List ℕ → ℕ) (s : List ℕ) (i at n : ℕ) → n ≡ f (take i s) → i ≤ at → at ≤ i → n ≡ f (take at s)
-until f s i at n e h g = e ∙ ap (λ (k : ℕ). f (take k s)) (let z : i ≡ at = omega arith in z)
-
-whole : (f : List ℕ → ℕ) (s : List ℕ) (i at n : ℕ) → n ≡ f (take i s) → i ≤ at → length s ≤ i → n ≡ f (take at s)
-whole f s i at n e h g = e ∙ ap f (take-all i s g ∙ sym (take-all at s (omega arith)))
-
--- n is the line of the place i
-module _ (s : List ℕ) (i n : ℕ) (inv : n ≡ line s i) where
-  pub line-there : (at : ℕ) → i ≤ at → at ≤ i → n ≡ line s at
-  unfolding line
-  line-there at h g = until (λ w. 1 + count newline w) s i at n inv h g
-
-  pub line-end : (at : ℕ) → i ≤ at → length s ≤ i → n ≡ line s at
-  unfolding line
-  line-end at h g = whole (λ w. 1 + count newline w) s i at n inv h g
-
-  module _ (h : i < length s) where
-    pub line-newline : getD s i 0 ≡ 10 → n + 1 ≡ line s (i + 1)
-    unfolding line
-    line-newline f = rw (next s i h, count-snoc newline (take i s) (getD s i 0), eqb-yes (getD s i 0) 10 f) (omega arith)
-
-    pub line-other : (getD s i 0 ≡ 10 → ⊥) → n ≡ line s (i + 1)
-    unfolding line
-    line-other f = rw (next s i h, count-snoc newline (take i s) (getD s i 0), eqb-no (getD s i 0) 10 f) inv
-
-    pub line-fits : length s * 1 < 2 ^ 63 → Fits w64 (n + 1)
-    unfolding line
-    line-fits l =
-        let k = count-short newline (take i s) in
-        let m = length-take-le i s (omega arith) in
-        omega arith
-
--- n is the column of the place i, and b the byte there
+-- n is the column of the place i
 module _ (s : List ℕ) (i n : ℕ) (inv : n ≡ column s i) where
   pub column-there : (at : ℕ) → i ≤ at → at ≤ i → n ≡ column s at
-  unfolding column
-  column-there at h g = until (λ w. 1 + count (λ b. not (continues b)) (last-line w)) s i at n inv h g
+  column-there at h g = inv ∙ ap (column s) (let z : i ≡ at = omega arith in z)
 
   pub column-end : (at : ℕ) → i ≤ at → length s ≤ i → n ≡ column s at
   unfolding column
-  column-end at h g = whole (λ w. 1 + count (λ b. not (continues b)) (last-line w)) s i at n inv h g
+  column-end at h g = inv ∙ ap (λ (w : List ℕ). 1 + characters (last-line w)) (take-all i s g ∙ sym (take-all at s (omega arith)))
 
   module _ (h : i < length s) where
     pub column-fits : length s * 1 < 2 ^ 63 → Fits w64 (n + 1)
     unfolding column
     column-fits l =
-        let k = count-short (λ b. not (continues b)) (last-line (take i s)) in
+        let k = characters-short (last-line (take i s)) in
         let j = last-short (take i s) in
         let m = length-take-le i s (omega arith) in
         omega arith
 
-    module _ (f : getD s i 0 ≡ 10 → ⊥) (t : Bool) (e : t ≡ continues (getD s i 0)) where
+    module _ (o : Bool) (f : o ≡ on-line (getD s i 0)) (y : o ≡ true) (t : Bool) (e : t ≡ continues (getD s i 0)) where
+      stepped : column s (i + 1) ≡ 1 + pick t (characters (last-line (take i s))) (suc (characters (last-line (take i s))))
+      unfolding column
+      stepped = rw (next s i h, last-other (getD s i 0) (sym f ∙ y) (take i s), characters-snoc (last-line (take i s)) (getD s i 0), e)
+
       pub column-inside : t ≡ true → n ≡ column s (i + 1)
       unfolding column
-      column-inside g = rw (next s i h, last-other (getD s i 0) f (take i s), count-snoc (λ b. not (continues b)) (last-line (take i s)) (getD s i 0), sym e ∙ g) inv
+      column-inside g = inv ∙ sym (rw g at stepped)
 
       pub column-on : t ≡ false → n + 1 ≡ column s (i + 1)
       unfolding column
-      column-on g =
-          rw (next s i h, last-other (getD s i 0) f (take i s), count-snoc (λ b. not (continues b)) (last-line (take i s)) (getD s i 0), sym e ∙ g) (omega arith)
+      column-on g = let z = (rw g at stepped) in omega arith
 
-pub column-newline : (s : List ℕ) (i : ℕ) → i < length s → getD s i 0 ≡ 10 → 1 ≡ column s (i + 1)
-unfolding column count
-column-newline s i h f = rw (next s i h, f, last-newline (take i s))
-
--- at the start both are 1
-pub line-start : (s : List ℕ) → 1 ≡ line s 0
-unfolding line count
-line-start s = refl
+-- after a CR or an LF it is 1, and so it is at the start
+pub column-break : (s : List ℕ) (i : ℕ) (o : Bool) → i < length s → o ≡ on-line (getD s i 0) → o ≡ false → 1 ≡ column s (i + 1)
+unfolding column characters
+column-break s i o h f n = rw (next s i h, last-break (getD s i 0) (sym f ∙ n) (take i s))
 
 pub column-start : (s : List ℕ) → 1 ≡ column s 0
-unfolding column count last-line
+unfolding column characters last-line
 column-start s = refl
 
 -- what the loops search
-pub ruleset lines = (line-there, line-end, line-newline, line-other, line-fits, line-start, needs)
+pub ruleset lines = (line-there, line-end, line-ended, line-on, line-fits, line-start, not-true, not-false, needs)
 
-pub ruleset columns = (column-there, column-end, column-inside, column-on, column-newline, column-fits, column-start, needs)
+pub ruleset columns = (column-there, column-end, column-inside, column-on, column-break, column-fits, column-start, not-true, not-false, needs)

@@ -1,34 +1,44 @@
--- The line and the column of a place, both from 1. These rules are ours, not the Rust's. A place past the end counts as the end.
--- Assumes nothing.
-use mathlib.Core.Bool.{Bool, not}
+-- The line and the column of a place, both from 1. These rules are ours, not the Rust's; what ends a line is W3C XML 1.0, section 2.11:
+-- a CR, an LF, or the two together. A place past the end counts as the end. Assumes nothing.
+use mathlib.Core.Bool.{Bool, _&&_, _||_, not}
 use mathlib.Core.List.{List, [], _∷_}
 use Prim.Native.Nat.{ℕ, suc, _+_}
 use lib.Dec.{eqb}
 use lib.ListN.{take}
 use Rattle.spec.specs.Basics.{pick, within}
-use Rattle.spec.specs.Reading.Readers.{contains}
+use Rattle.spec.specs.Reading.Checks.{all-of}
 
--- how many bytes are of the class
-unfoldable pub count : (ℕ → Bool) → List ℕ → ℕ
-count p [] = 0
-count p (b ∷ w) = pick (p b) (suc (count p w)) (count p w)
+-- a CR ends a line, and so does an LF, but not one that a CR stands directly before: b is the byte, a the one before it
+abbrev pub ends-line : ℕ → ℕ → Bool
+ends-line a b = eqb b 13 || eqb b 10 && not (eqb a 13)
 
-abbrev pub newline : ℕ → Bool
-newline b = eqb b 10
+-- how many lines end in a text before which a stands
+unfoldable pub line-ends : ℕ → List ℕ → ℕ
+line-ends a [] = 0
+line-ends a (b ∷ w) = pick (ends-line a b) (suc (line-ends b w)) (line-ends b w)
+
+-- a byte that stands on a line: neither CR nor LF
+abbrev pub on-line : ℕ → Bool
+on-line b = not (eqb b 13 || eqb b 10)
+
+-- what stands after the last CR or LF; the whole text, where there is none
+unfoldable pub last-line : List ℕ → List ℕ
+last-line [] = []
+last-line (b ∷ w) = pick (all-of on-line (b ∷ w)) (b ∷ w) (last-line w)
 
 -- a byte that goes on with a character of UTF-8
 abbrev pub continues : ℕ → Bool
 continues b = within 128 191 b
 
--- what stands after the last newline; the whole text, where there is none
-unfoldable pub last-line : List ℕ → List ℕ
-last-line [] = []
-last-line (b ∷ w) = pick (contains (10 ∷ []) (b ∷ w)) (last-line w) (b ∷ w)
+-- how many characters stand in a text; a character counts at the byte that begins it
+unfoldable pub characters : List ℕ → ℕ
+characters [] = 0
+characters (b ∷ w) = pick (continues b) (characters w) (suc (characters w))
 
--- the newlines before the place, and one more
+-- the lines that end before the place, and one more
 unfoldable pub line : List ℕ → ℕ → ℕ
-line w at = 1 + count newline (take at w)
+line w at = 1 + line-ends 0 (take at w)
 
--- the characters before the place on its line, and one more; a character counts at the byte that begins it
+-- the characters before the place on its line, and one more
 unfoldable pub column : List ℕ → ℕ → ℕ
-column w at = 1 + count (λ b. not (continues b)) (last-line (take at w))
+column w at = 1 + characters (last-line (take at w))

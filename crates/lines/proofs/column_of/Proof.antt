@@ -23,6 +23,7 @@ column-of-spec =
     (λ c. search columns)  -- returns
     (λ c. search columns)  -- shared-slice-read-b
     (λ c. search columns)  -- add-i
+    (λ c κs. search columns)  -- is-on-line-requires
     (λ c. search columns)  -- loop-less
     (λ c. search columns)  -- loop-again
     (λ c κs. search columns)  -- is-continuation-requires
