@@ -1,5 +1,5 @@
 -- The checks of characters and references: each is one step again and again to the text's end. Assumes nothing.
-use mathlib.Core.Path.{_≡_, refl, sym}
+use mathlib.Core.Path.{_≡_, refl, ap, _∙_}
 use mathlib.Core.Bool.{Bool, true, false, _||_, or-true}
 use mathlib.Core.List.{List}
 use Prim.Native.Nat.{ℕ, _+_, _≤_}
@@ -7,13 +7,14 @@ use native.Mathlib.Omega.{arith}
 use lib.Dec.{eqb}
 use lib.ListN.{length, drop}
 use Rattle.spec.specs.Reading.Refusals.{illegal-char}
-use Rattle.spec.specs.Reading.Readers.{number-of, refuse, on, throughout, a-byte}
+use Rattle.spec.specs.Reading.Readers.{ok, number-of, stop-of, refuse, on, throughout, a-byte}
 use Rattle.spec.specs.Reading.Wellformed.{illegal-here, legal-byte, check-chars, char-ref, ref-or-byte, check-char-refs}
 use Rattle.spec.proofs.Base.Tests.{eqb-yes, or-false-left}
 use Rattle.spec.proofs.Base.Somes.{some-legal, some-ref-or-byte}
-use Rattle.error.specs.Read.{read}
+use Rattle.spec.proofs.Inside.Readers.{in-chars}
+use Rattle.error.specs.Read.{said, read}
 use Rattle.error.specs.declared.Answer.the-variants.{At}
-use Rattle.error.proofs.Laws.{walk-end, answered}
+use Rattle.error.proofs.Laws.{was-ok, walk-end}
 use Rattle.search.specs.Runs.{away}
 use Rattle.search.proofs.Runs.{passing}
 use Rattle.chars.specs.Bytes.{suspect, special}
@@ -59,10 +60,22 @@ unfolding check-char-refs
 refs-from s at = refl
 
 -- a text without a suspect byte
-pub calm-text : (s : List ℕ) (i : ℕ) (found : Bool) → length s ≤ i → (found ≡ false → i + away suspect (drop i s) ≡ 0 + away suspect (drop 0 s)) → found ≡ false → number-of (check-chars s) ≡ 0
+pub calm-text : (s : List ℕ) (i : ℕ) (found : Bool) → length s ≤ i → (found ≡ false → i + away suspect (drop i s) ≡ 0 + away suspect (drop 0 s)) → found ≡ false → check-chars s ≡ ok (length s)
+unfolding said
 calm-text s i found h inv f =
     let w = walk-skip legal-byte suspect s 0 i (read check-chars s 0) some-legal (record { onward = omega arith; ends = inv f }) plain-suspect (chars-from s) in
-    sym (answered check-chars s (At i) 0 (walk-end legal-byte s i (read check-chars s 0) w h) refl)
+    let (k, (e, g)) = was-ok check-chars s 0 i (At i) (walk-end legal-byte s i (read check-chars s 0) w h) refl in
+    let l : stop-of (check-chars s) ≤ length s = in-chars .inside s in
+    let m : k ≤ length s = (rw e at l) in
+    let n : k ≡ length s = omega arith in
+    e ∙ ap ok n
+
+-- what is told of it
+pub calm-number : (s : List ℕ) → check-chars s ≡ ok (length s) → 0 ≡ number-of (check-chars s)
+calm-number s e = rw e
+
+pub calm-end : (s : List ℕ) → check-chars s ≡ ok (length s) → length s ≡ stop-of (check-chars s)
+calm-end s e = rw e
 
 -- what the checks' loops search, and what the pass searches
 pub ruleset walks = (some-legal, some-ref-or-byte, plain-chars, plain-refs, chars-from, refs-from, steps)

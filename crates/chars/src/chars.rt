@@ -4,12 +4,13 @@ use crate::skip::is_special;
 use crate::skip::skip_blocks;
 use error::Answer;
 use error::number;
+use error::stopped;
 use search::at_keyword;
 ghost use mathlib.Core.Path.{_≡_};
 ghost use mathlib.Core.Bool.{false};
-ghost use lib.ListN.{drop};
+ghost use lib.ListN.{length, drop};
 ghost use Rattle.spec.specs.Grammar.Characters.{xml-char};
-ghost use Rattle.spec.specs.Reading.Readers.{number-of, a-byte};
+ghost use Rattle.spec.specs.Reading.Readers.{ok, number-of, stop-of, a-byte};
 ghost use Rattle.spec.specs.Reading.Wellformed.{illegal-here, legal-byte, check-chars};
 ghost use Rattle.error.specs.Read.{said, read};
 ghost use Rattle.chars.specs.Bytes.{suspect};
@@ -68,7 +69,7 @@ pub fn check_suspect_byte(s: &[u8], i: usize) -> Answer
 
 // The pass that accepts most texts: it stops nowhere, so that it becomes vector code.
 fn any_suspect(text: &[u8]) -> bool
-    ensures { λ r. ⌜ (r ≡ false → number-of (check-chars (now (text .entry))) ≡ 0) ⌝ }
+    ensures { λ r. ⌜ (r ≡ false → check-chars (now (text .entry)) ≡ ok (length (now (text .entry)))) ⌝ }
 {
     let mut found = false;
     let mut i: usize = 0;
@@ -115,4 +116,15 @@ pub fn chars_number(text: &[u8]) -> u8
         return number(r);
     }
     error::ACCEPTED
+}
+
+// The first byte of the first illegal character, or the text's end.
+pub fn chars_end(text: &[u8]) -> usize
+    ensures { λ r. ⌜ r ≡ stop-of (check-chars (now (text .entry))) ⌝ }
+{
+    if any_suspect(text) {
+        let r = walk_chars(text);
+        return stopped(r).place;
+    }
+    text.len()
 }

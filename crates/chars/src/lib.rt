@@ -8,6 +8,7 @@ pub use calls::check_char_refs;
 pub use calls::check_char_refs_at;
 pub use calls::check_chars;
 pub use calls::check_chars_at;
+pub use chars::chars_end;
 pub use chars::chars_number;
 pub use chars::check_suspect_byte;
 pub use chars::is_xml_char;

@@ -1,1 +1,3 @@
 pub mod Naming
+pub mod Reached
+pub mod Ending

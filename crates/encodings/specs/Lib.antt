@@ -1,1 +1,2 @@
 pub mod Codings
+pub mod Ends

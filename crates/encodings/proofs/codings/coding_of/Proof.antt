@@ -1,5 +1,4 @@
--- `encodings::codings::coding_of` meets its contract.
--- Assumes nothing.
+-- `encodings::codings::coding_of` meets its contract. Assumes nothing.
 use Rattle.encodings.proofs.Naming.{naming}
 use Rattle.encodings.proofs.codings.coding_of.Statement.{statement}
 use Rattle.encodings.proofs.codings.coding_of.Tie as tie

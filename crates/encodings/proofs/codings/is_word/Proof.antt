@@ -1,5 +1,4 @@
--- `encodings::codings::is_word` meets its contract.
--- Assumes nothing.
+-- `encodings::codings::is_word` meets its contract. Assumes nothing.
 use Rattle.encodings.proofs.Naming.{naming}
 use Rattle.encodings.proofs.codings.is_word.Statement.{statement}
 use Rattle.encodings.proofs.codings.is_word.Tie as tie

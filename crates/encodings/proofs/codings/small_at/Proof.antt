@@ -1,5 +1,4 @@
--- `encodings::codings::small_at` meets its contract.
--- Assumes nothing.
+-- `encodings::codings::small_at` meets its contract. Assumes nothing.
 use Rattle.encodings.proofs.Naming.{letters}
 use Rattle.encodings.proofs.codings.small_at.Statement.{statement}
 use Rattle.encodings.proofs.codings.small_at.Tie as tie

@@ -1,5 +1,4 @@
--- `encodings::codings::small_letter` meets its contract.
--- Assumes nothing.
+-- `encodings::codings::small_letter` meets its contract. Assumes nothing.
 use Rattle.encodings.proofs.Naming.{letters}
 use Rattle.encodings.proofs.codings.small_letter.Statement.{statement}
 use Rattle.encodings.proofs.codings.small_letter.Tie as tie
