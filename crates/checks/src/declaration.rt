@@ -116,11 +116,12 @@ fn parse_after_version(s: &[u8], at: usize) -> Answer
     at_end(s, i)
 }
 
-// [23] XMLDecl, what stands between `<?` and `?>`: [24] VersionInfo first
-fn parse_declaration(s: &[u8]) -> Answer
-    ensures { λ r. ⌜ said r ≡ read check-declaration (now (s .entry)) 0 ⌝ }
+// [23] XMLDecl, what stands between `<?` and `?>`: [24] VersionInfo first. From a place on, so that whoever reads a whole document can hand
+// on its front part up to the `?>`, and gets places of the document.
+pub fn declaration_at(s: &[u8], at: usize) -> Answer
+    ensures { λ r. ⌜ said r ≡ read check-declaration (now (s .entry)) at ⌝ }
 {
-    let r = eat_str(s, 0, b"xml", UNEXPECTED);
+    let r = eat_str(s, at, b"xml", UNEXPECTED);
     let Answer::At(i) = r else {
         return r;
     };
@@ -143,7 +144,7 @@ fn parse_declaration(s: &[u8]) -> Answer
 pub fn declaration_number(text: &[u8]) -> u8
     ensures { λ r. ⌜ r ≡ number-of (check-declaration (now (text .entry))) ⌝ }
 {
-    let r = parse_declaration(text);
+    let r = declaration_at(text, 0);
     number(r)
 }
 
@@ -166,6 +167,6 @@ pub fn check_declaration_at(text: &[u8]) -> Stop
     let Answer::At(_) = a else {
         return stopped(a);
     };
-    let r = parse_declaration(text);
+    let r = declaration_at(text, 0);
     stopped(r)
 }

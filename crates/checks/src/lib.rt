@@ -4,4 +4,5 @@ mod values;
 
 pub use declaration::check_declaration;
 pub use declaration::check_declaration_at;
+pub use declaration::declaration_at;
 pub use declaration::declaration_number;

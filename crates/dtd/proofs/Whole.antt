@@ -22,6 +22,7 @@ use Rattle.source.proofs.Admitting.{call-refused, call-answered}
 use Rattle.source.proofs.Placing.{stopping}
 use Rattle.cursor.proofs.Reading.{reading}
 use Rattle.dtd.specs.Parts.{id-part}
+use Rattle.dtd.proofs.Ending.{read-last, read-ended}
 
 -- an external identifier stands at a place, by either of its words, or none does
 module _ (s : List ℕ) (at : ℕ) (a b : Bool) (e : a ≡ starts (ascii "SYSTEM") (drop at s)) (f : b ≡ starts (ascii "PUBLIC") (drop at s)) (q : Said) where
@@ -50,7 +51,9 @@ pub whole-placed : Placed (check-doctype appendix-B)
 whole-placed = doctype-placed appendix-B
 
 -- what the parts search, and the public calls
-pub ruleset parts-read = (id-yes, id-no, reading)
+pub ruleset parts-read = (id-yes, id-no, read-last, reading)
+
+pub ruleset ending = (read-ended, reading)
 
 pub ruleset whole = (doctype-refused, doctype-answered, needs)
 

@@ -17,8 +17,8 @@ use source::admit_at;
 use subset::parse_internal_subset;
 ghost use mathlib.Core.Path.{_≡_};
 ghost use Rattle.spec.specs.Grammar.AppendixB.{appendix-B};
-ghost use Rattle.spec.specs.Reading.Dtd.{check-doctype};
-ghost use Rattle.spec.specs.Reading.Readers.{number-of};
+ghost use Rattle.spec.specs.Reading.Dtd.{doctype-before, check-doctype};
+ghost use Rattle.spec.specs.Reading.Readers.{nothing, number-of};
 ghost use Rattle.spec.specs.Promises.{ChecksDoctype, Stops};
 ghost use Rattle.error.specs.Read.{said, read};
 ghost use Rattle.classes.specs.Classes.{dialect};
@@ -53,11 +53,11 @@ fn parse_subset_part(s: &[u8], at: usize, names: Names) -> Answer
     Answer::At(skip_s(s, i))
 }
 
-// [28] doctypedecl, what stands between `<!DOCTYPE` and its `>`
-fn parse_doctype(s: &[u8], names: Names) -> Answer
-    ensures { λ r. ⌜ said r ≡ read (check-doctype (dialect names)) (now (s .entry)) 0 ⌝ }
+// [28] doctypedecl after its `<!DOCTYPE`, up to what ends it: the text's end here, the `>` in a document
+pub fn parse_before_end(s: &[u8], at: usize, names: Names) -> Answer
+    ensures { λ r. ⌜ said r ≡ read (doctype-before (dialect names) nothing) (now (s .entry)) at ⌝ }
 {
-    let i = skip_s(s, 0);
+    let i = skip_s(s, at);
     let r = need_name(s, i, names);
     let Answer::At(i) = r else {
         return r;
@@ -67,7 +67,14 @@ fn parse_doctype(s: &[u8], names: Names) -> Answer
     let Answer::At(i) = r else {
         return r;
     };
-    let r = parse_subset_part(s, i, names);
+    parse_subset_part(s, i, names)
+}
+
+// [28] doctypedecl, what stands between `<!DOCTYPE` and its `>`
+fn parse_doctype(s: &[u8], names: Names) -> Answer
+    ensures { λ r. ⌜ said r ≡ read (check-doctype (dialect names)) (now (s .entry)) 0 ⌝ }
+{
+    let r = parse_before_end(s, 0, names);
     let Answer::At(i) = r else {
         return r;
     };

@@ -4,3 +4,4 @@ mod doctype;
 pub use doctype::check_doctype;
 pub use doctype::check_doctype_at;
 pub use doctype::doctype_number;
+pub use doctype::parse_before_end;

@@ -17,7 +17,7 @@ use Rattle.error.specs.declared.Answer.the-variants.{At, No}
 use Rattle.error.proofs.Laws.{was-ok, seq-no, seq-at}
 
 -- three readers, one after the other
-then-then : (A B C : Reader) (w : List ℕ) → ((A >> B) >> C) w ≡ (A >> B >> C) w
+pub then-then : (A B C : Reader) (w : List ℕ) → ((A >> B) >> C) w ≡ (A >> B >> C) w
 unfolding _>>_
 then-then A B C w = first (A w)
   where

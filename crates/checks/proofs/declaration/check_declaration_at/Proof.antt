@@ -12,6 +12,6 @@ check-declaration-at-spec =
     (λ c. search located)  -- enum-told-2
     (λ c κs. search located)  -- stopped-requires
     (λ c. search located)  -- returns
-    (λ c κs. search located)  -- parse-declaration-requires
+    (λ c κs. search located)  -- declaration-at-requires
     (λ c κs. search located)  -- stopped-requires-2
     (λ c. search located))  -- returns-2

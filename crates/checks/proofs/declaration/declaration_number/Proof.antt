@@ -9,6 +9,6 @@ pub declaration-number-spec : {M : Type 1} → statement M
 declaration-number-spec =
     tie.close
     (tie.spec
-    (λ c κs. search declaring)  -- parse-declaration-requires
+    (λ c κs. search declaring)  -- declaration-at-requires
     (λ c κs. search declaring)  -- number-requires
-    (λ c. answered check-declaration _ _ _ (c .before .parse-declaration .ensures) (c .number .ensures)))  -- returns
+    (λ c. answered check-declaration _ _ _ (c .before .declaration-at .ensures) (c .number .ensures)))  -- returns

@@ -1,28 +1,17 @@
 -- `dtd::doctype::parse_doctype` meets its contract. Assumes nothing.
-use Rattle.spec.specs.Reading.Dtd.{doctype-before, check-doctype}
-use Rattle.dtd.specs.Parts.{id-part, subset-part}
-use Rattle.dtd.proofs.Whole.{parts-read}
+use Rattle.spec.specs.Reading.Dtd.{check-doctype}
+use Rattle.dtd.proofs.Whole.{ending}
 use Rattle.dtd.proofs.doctype.parse_doctype.Statement.{statement}
 use Rattle.dtd.proofs.doctype.parse_doctype.Tie as tie
 
 pub parse-doctype-spec : {M : Type 1} → statement M
-unfolding check-doctype doctype-before id-part subset-part
+unfolding check-doctype
 parse-doctype-spec =
     tie.close
     (tie.spec
-    (λ c κs. search parts-read)  -- skip-s-requires
-    (λ c κs. search parts-read)  -- need-name-requires
-    (λ c. search parts-read)  -- enum-known-r
-    (λ c. search parts-read)  -- enum-told
-    (λ c. search parts-read)  -- returns
-    (λ c κs. search parts-read)  -- skip-s-requires-2
-    (λ c κs. search parts-read)  -- parse-id-part-requires
-    (λ c. search parts-read)  -- enum-known-r-2
-    (λ c. search parts-read)  -- enum-told-2
-    (λ c. search parts-read)  -- returns-2
-    (λ c κs. search parts-read)  -- parse-subset-part-requires
-    (λ c. search parts-read)  -- enum-known-r-3
-    (λ c. search parts-read)  -- enum-told-3
-    (λ c. search parts-read)  -- returns-3
-    (λ c κs. search parts-read)  -- at-end-requires
-    (λ c. search parts-read))  -- returns-4
+    (λ c κs. search ending)  -- parse-before-end-requires
+    (λ c. search ending)  -- enum-known-r
+    (λ c. search ending)  -- enum-told
+    (λ c. search ending)  -- returns
+    (λ c κs. search ending)  -- at-end-requires
+    (λ c. search ending))  -- returns-2

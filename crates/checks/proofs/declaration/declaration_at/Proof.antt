@@ -1,14 +1,14 @@
--- `checks::declaration::parse_declaration` meets its contract. Assumes nothing.
+-- `checks::declaration::declaration_at` meets its contract. Assumes nothing.
 use Rattle.spec.specs.Reading.Checks.{check-declaration}
 use Rattle.error.proofs.Laws.{seq-no, seq-at}
 use Rattle.cursor.proofs.Reading.{ate-next, reading}
 use Rattle.checks.specs.Values.{test-of}
-use Rattle.checks.proofs.declaration.parse_declaration.Statement.{statement}
-use Rattle.checks.proofs.declaration.parse_declaration.Tie as tie
+use Rattle.checks.proofs.declaration.declaration_at.Statement.{statement}
+use Rattle.checks.proofs.declaration.declaration_at.Tie as tie
 
-pub parse-declaration-spec : {M : Type 1} → statement M
+pub declaration-at-spec : {M : Type 1} → statement M
 unfolding check-declaration test-of
-parse-declaration-spec =
+declaration-at-spec =
     tie.close
     (tie.spec
     (λ c. search reading)  -- slice-aggregate-eat-str
@@ -30,4 +30,4 @@ parse-declaration-spec =
     (λ c. search reading)  -- enum-told-4
     (λ c. search (ate-next, seq-at, seq-no))  -- returns-4
     (λ c κs. search reading)  -- parse-after-version-requires
-    (λ c. search reading))  -- returns-5
+    (λ c. search (ate-next, seq-at)))  -- returns-5
