@@ -16,7 +16,7 @@ use Rattle.spec.specs.Reading.Refusals.{Refusal}
 use Rattle.spec.proofs.Agreement.Words.{starts-split}
 use Rattle.spec.proofs.Base.Places.{front-at}
 use Rattle.spec.proofs.Base.Tests.{and-left}
-use Rattle.spec.proofs.Prolog.Misc.{begins-sign}
+use Rattle.spec.proofs.Agreement.FirstSign.{begins-sign}
 use Rattle.error.specs.Read.{Said, read}
 use Rattle.error.proofs.Laws.{choose-yes}
 use Rattle.search.proofs.Words.{word-then}
