@@ -1,3 +1,4 @@
 pub mod Valuing
 pub mod Equating
 pub mod Declaring
+pub mod Chaining

@@ -24,6 +24,7 @@ ghost use Rattle.spec.specs.Promises.{Checks, Stops};
 ghost use Rattle.spec.specs.Reading.Checks.{parse-eq-quoted, check-declaration};
 ghost use Rattle.spec.specs.Reading.Dtd.{require-s};
 ghost use Rattle.spec.specs.Reading.Readers.{number-of};
+ghost use Rattle.spec.specs.Reading.Verdict.{read-version};
 ghost use Rattle.error.specs.Read.{said, read};
 ghost use Rattle.checks.specs.Pieces.{quoted-said, eq-quoted, pseudo-attr-of, after-version};
 ghost use Rattle.checks.specs.Values.{test-of};
@@ -116,10 +117,9 @@ fn parse_after_version(s: &[u8], at: usize) -> Answer
     at_end(s, i)
 }
 
-// [23] XMLDecl, what stands between `<?` and `?>`: [24] VersionInfo first. From a place on, so that whoever reads a whole document can hand
-// on its front part up to the `?>`, and gets places of the document.
-pub fn declaration_at(s: &[u8], at: usize) -> Answer
-    ensures { λ r. ⌜ said r ≡ read check-declaration (now (s .entry)) at ⌝ }
+// [23] XMLDecl up to its version: the name of the instruction and [24] VersionInfo
+pub fn parse_version(s: &[u8], at: usize) -> Answer
+    ensures { λ r. ⌜ said r ≡ read read-version (now (s .entry)) at ⌝ }
 {
     let r = eat_str(s, at, b"xml", UNEXPECTED);
     let Answer::At(i) = r else {
@@ -133,7 +133,15 @@ pub fn declaration_at(s: &[u8], at: usize) -> Answer
     let Answer::At(i) = r else {
         return r;
     };
-    let r = parse_value(s, i, Kind::VersionNum);
+    parse_value(s, i, Kind::VersionNum)
+}
+
+// [23] XMLDecl, what stands between `<?` and `?>`. From a place on, so that whoever reads a whole document can hand on its front part up to
+// the `?>`, and gets places of the document.
+pub fn declaration_at(s: &[u8], at: usize) -> Answer
+    ensures { λ r. ⌜ said r ≡ read check-declaration (now (s .entry)) at ⌝ }
+{
+    let r = parse_version(s, at);
     let Answer::At(i) = r else {
         return r;
     };
