@@ -10,7 +10,7 @@ use lib.ListN.{length, drop}
 use Rattle.spec.specs.Basics.{pick}
 use Rattle.spec.specs.Grammar.Encodings.{class-of}
 use Rattle.spec.specs.Reading.Document.{legal-length}
-use Rattle.spec.specs.Reading.Refusals.{Refusal, number, too-long, not-utf8, unterminated, illegal-char}
+use Rattle.spec.specs.Reading.Refusals.{number, too-long, not-utf8, unterminated, illegal-char}
 use Rattle.spec.specs.Reading.Utf8.{decode1}
 use Rattle.spec.specs.Reading.Verdict.{end-refusal}
 use Rattle.spec.proofs.Base.Tests.{leb-yes, leb-no}

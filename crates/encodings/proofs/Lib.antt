@@ -1,3 +1,4 @@
 pub mod Naming
 pub mod Reached
 pub mod Ending
+pub mod Finding

@@ -16,7 +16,7 @@ use Rattle.spec.specs.Grammar.Languages.{ascii}
 use Rattle.spec.specs.Reading.Readers.{starts}
 use Rattle.spec.proofs.Agreement.Words.{starts-split}
 use Rattle.spec.proofs.Base.Places.{drop-at, drop-end}
-use Rattle.spec.proofs.Base.Tests.{within-yes, within-low, within-high, eqb-yes, eqb-no, not-true}
+use Rattle.spec.proofs.Base.Tests.{within-yes, within-low, within-high, eqb-no}
 use Rattle.encodings.specs.Codings.{of, width, small-letter, lowered}
 use Rattle.encodings.specs.declared.codings.Coding.the-variants.{Utf8, Bytes, Foreign}
 use Rattle.encodings.specs.declared.wide.Wide.the-variants.{Narrow, Utf16Be, Utf16Le, Utf32Be, Utf32Le}

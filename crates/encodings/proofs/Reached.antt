@@ -27,6 +27,7 @@ use Rattle.spec.proofs.Base.Tests.{true→T, leb-true, and-right, not-true, not
 use Rattle.spec.proofs.Characters.LegalBytes.{legal-here, tail-legal}
 use Rattle.spec.proofs.Characters.Utf8.{Read, encode-1, encode-nonempty, decode-read, decode-1, point-size}
 use Rattle.spec.proofs.Characters.Valid.{utf8-end, utf8-turn, utf8-stop, utf8-sound, utf8-complete, utf8-inside}
+use Rattle.spec.proofs.Inside.Ways.{stop-past}
 use Rattle.spec.proofs.Wellformed.LongestName.{chars, chars-turn, chars-stop, char-is, char-not, char-none}
 use Rattle.spec.proofs.Wellformed.Walks.{over-char}
 use Rattle.search.proofs.Runs.{run-end}
@@ -35,11 +36,6 @@ use Rattle.cursor.proofs.Spaces.{class-stop, class-go}
 use Rattle.encodings.specs.Codings.{of}
 use Rattle.encodings.specs.declared.codings.Coding.{Coding}
 use Rattle.encodings.specs.declared.codings.Coding.the-variants.{Utf8, Bytes, Foreign}
-
--- bytes taken before
-stop-past : (k : ℕ) (x : Result) → stop-of (past k x) ≡ k + stop-of x
-stop-past k (ok j) = refl
-stop-past k (err r j) = refl
 
 -- the step of check_chars over a character's first byte, and over a tail
 legal-step : (c : ℕ) (v : List ℕ) (t : Bool) → scalar c ≡ true → xml-char c ≡ t → legal-byte (encode c ++ v) ≡ pick t (a-byte (encode c ++ v)) (err illegal-char 0)

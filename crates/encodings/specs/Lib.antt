@@ -1,2 +1,3 @@
 pub mod Codings
 pub mod Ends
+pub mod Names

@@ -2,6 +2,7 @@
 mod codings;
 mod ends;
 mod legal;
+mod names;
 mod wide;
 
 pub use codings::Coding;
@@ -9,5 +10,9 @@ pub use codings::coding_of;
 pub use ends::end_number;
 pub use ends::end_number_at;
 pub use legal::legal_end;
+pub use names::Named;
+pub use names::coding_in;
+pub use names::encoding_read;
+pub use names::find_encoding;
 pub use wide::Wide;
 pub use wide::looks_like;
