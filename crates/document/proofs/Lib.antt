@@ -3,3 +3,5 @@ pub mod Items
 pub mod Closing
 pub mod Tags
 pub mod Prologs
+pub mod Unended
+pub mod Judging

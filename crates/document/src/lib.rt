@@ -2,9 +2,11 @@
 // for all bytes and all places, and answers as the reader of the same name in the order of reading.
 mod declaration;
 mod doctype;
+mod ends;
 mod misc;
 mod opening;
 mod root;
+mod verdict;
 
 pub use declaration::is_declaration;
 pub use declaration::read_declaration;
@@ -14,3 +16,5 @@ pub use misc::read_misc;
 pub use opening::Prolog;
 pub use opening::read_prolog;
 pub use root::read_tag;
+pub use verdict::Judged;
+pub use verdict::judge;
