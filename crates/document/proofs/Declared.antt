@@ -1,40 +1,22 @@
--- Where an XML declaration begins, and that its first two signs are read before its text. Assumes nothing.
+-- Where an XML declaration begins, its first two signs are read before its text. Assumes nothing.
 use mathlib.Core.Path.{_≡_, refl, sym, ap, _∙_}
-use mathlib.Core.Bool.{Bool, true, false, _||_, or-false, or-assoc}
+use mathlib.Core.Bool.{Bool, true}
 use mathlib.Core.List.{List, _++_}
 use Prim.Native.Nat.{ℕ, _+_, _^_, _<_}
 use native.Mathlib.Omega.{arith}
 use mir.Syntax.{w64}
 use mir.Val.{Fits}
-use lib.Dec.{eqb}
-use lib.ListN.{length, getD, drop, length-drop}
-use lib.Seq.{drop-drop}
+use lib.ListN.{length, drop, length-drop}
 use Rattle.spec.specs.Grammar.Languages.{ascii, one-of}
 use Rattle.spec.specs.Reading.Document.{is-declaration}
 use Rattle.spec.specs.Reading.Readers.{Reader, _>>_, starts, choose, begins, word-of}
 use Rattle.spec.specs.Reading.Refusals.{Refusal}
 use Rattle.spec.proofs.Agreement.Words.{starts-split}
-use Rattle.spec.proofs.Base.Places.{front-at}
 use Rattle.spec.proofs.Base.Tests.{and-left}
-use Rattle.spec.proofs.Agreement.FirstSign.{begins-sign}
 use Rattle.error.specs.Read.{Said, read}
 use Rattle.error.proofs.Laws.{choose-yes}
 use Rattle.search.proofs.Words.{word-then}
 use Rattle.markup.proofs.UpTo.{upwards}
-
--- one sign of five
-pub target-signs : (b : ℕ) → eqb b 32 || eqb b 9 || eqb b 13 || eqb b 10 || eqb b 63 ≡ one-of " \t\r\n?" b
-target-signs b = simp (or-false, or-assoc)
-
--- whether a declaration begins: t whether "<?xml" stands there, x the byte after it, c what that byte is
-module _ (s : List ℕ) (at : ℕ) (t : Bool) (a : t ≡ starts (ascii "<?xml") (drop at s)) where
-  pub declared-no : t ≡ false → false ≡ is-declaration (drop at s)
-  unfolding is-declaration
-  declared-no f = rw (sym a ∙ f)
-
-  pub declared-by : (x : ℕ) (c : Bool) → t ≡ true → x ≡ getD s (at + 5) 0 → c ≡ one-of " \t\r\n?" x → c ≡ is-declaration (drop at s)
-  unfolding is-declaration
-  declared-by x c f e d = rw (sym a ∙ f, begins-sign " \t\r\n?" tt refl, drop-drop, front-at, ← e) d
 
 -- where one begins, "<?" stands, and what B reads comes after it
 module _ (s : List ℕ) (at : ℕ) (b : Bool) (e : b ≡ is-declaration (drop at s)) (f : b ≡ true) where
@@ -52,4 +34,4 @@ module _ (s : List ℕ) (at : ℕ) (b : Bool) (e : b ≡ is-declaration (drop at
       choose-yes is-declaration (word-of (ascii "<?") n >> B) C s at b q e f (word-then (ascii "<?") s at true (rw g) n B q refl a)
 
 -- what the declaration's readers search
-pub ruleset declaring = (target-signs, declared-no, declared-by, declared-fits, declared-then, upwards)
+pub ruleset declaring = (declared-fits, declared-then, upwards)

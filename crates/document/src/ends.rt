@@ -1,5 +1,5 @@
 // What does not end in a text, by the number and the place of a refusal, and where it was opened.
-use crate::declaration::is_declaration;
+use checks::is_declaration;
 use error::UNTERMINATED;
 use search::Found;
 use search::find;

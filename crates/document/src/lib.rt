@@ -8,7 +8,6 @@ mod opening;
 mod root;
 mod verdict;
 
-pub use declaration::is_declaration;
 pub use declaration::read_declaration;
 pub use doctype::read_doctype;
 pub use misc::read_item;

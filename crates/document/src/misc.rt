@@ -1,5 +1,5 @@
 // [27] Misc: comments, instructions and white space around the DOCTYPE.
-use crate::declaration::is_declaration;
+use checks::is_declaration;
 use classes::Names;
 use cursor::skip_s;
 use error::Answer;
