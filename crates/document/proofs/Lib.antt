@@ -5,3 +5,4 @@ pub mod Tags
 pub mod Prologs
 pub mod Unended
 pub mod Judging
+pub mod Findings

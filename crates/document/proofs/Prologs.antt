@@ -25,7 +25,7 @@ use Rattle.error.specs.declared.Answer.{Answer}
 use Rattle.error.specs.declared.Answer.the-variants.{At, No}
 use Rattle.error.proofs.Laws.{passed≢refused, was-ok, seq-no, seq-at, took-nothing}
 use Rattle.search.proofs.Words.{on-yes, on-no, word-fits}
-use Rattle.dtd.proofs.Ending.{doctype-then}
+use Rattle.spec.proofs.Base.Sequences.{doctype-then}
 use Rattle.document.specs.Prologs.{with-text, placed-prolog, prolog-read, ending-read}
 use Rattle.document.specs.declared.opening.Prolog.{Prolog}
 use Rattle.document.specs.declared.opening.Prolog.the-variants.{Read, Refused}

@@ -1,3 +1,4 @@
 pub mod Closed
 pub mod Judgements
+pub mod Findings
 pub mod Prologs

@@ -3,6 +3,7 @@
 mod declaration;
 mod doctype;
 mod ends;
+mod finding;
 mod misc;
 mod opening;
 mod root;
@@ -10,6 +11,8 @@ mod verdict;
 
 pub use declaration::read_declaration;
 pub use doctype::read_doctype;
+pub use finding::Finding;
+pub use finding::find;
 pub use misc::read_item;
 pub use misc::read_misc;
 pub use opening::Prolog;

@@ -14,20 +14,8 @@ use Rattle.spec.proofs.Base.Results.{past-past}
 use Rattle.error.specs.Read.{Said, said, read, placed}
 use Rattle.error.specs.declared.Answer.{Answer}
 use Rattle.error.specs.declared.Answer.the-variants.{At, No}
+use Rattle.spec.proofs.Base.Sequences.{then-then}
 use Rattle.error.proofs.Laws.{was-ok, seq-no, seq-at}
-
--- three readers, one after the other
-pub then-then : (A B C : Reader) (w : List ℕ) → ((A >> B) >> C) w ≡ (A >> B >> C) w
-unfolding _>>_
-then-then A B C w = first (A w)
-  where
-    second : (k : ℕ) (x : Result) → on-ok (past k x) (λ j. past j (C (drop j w))) ≡ past k (on-ok x (λ j. past j (C (drop j (drop k w)))))
-    second k (err n j) = refl
-    second k (ok j) = sym (past-past k j (C (drop j (drop k w))) ∙ ap (λ (v : List ℕ). past (k + j) (C v)) (drop-drop j k w))
-
-    first : (x : Result) → on-ok (on-ok x (λ k. past k (B (drop k w)))) (λ j. past j (C (drop j w))) ≡ on-ok x (λ k. past k ((B >> C) (drop k w)))
-    first (err n j) = refl
-    first (ok k) = second k (B (drop k w))
 
 -- A turn takes a byte or more, where the test holds.
 module _ (t : List ℕ → Bool) (r : Reader) (ends : t [] ≡ false) (some : Somes r) where
