@@ -6,3 +6,4 @@ pub mod Prologs
 pub mod Unended
 pub mod Judging
 pub mod Findings
+pub mod Checking

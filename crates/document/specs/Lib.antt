@@ -1,4 +1,5 @@
 pub mod Closed
 pub mod Judgements
 pub mod Findings
+pub mod Judges
 pub mod Prologs

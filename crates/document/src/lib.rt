@@ -1,5 +1,6 @@
 // The beginning of a document, as [1] has it: the prolog, and '<' and a name of the root. Each reader is a function of the text and a place,
 // for all bytes and all places, and answers as the reader of the same name in the order of reading.
+mod check;
 mod declaration;
 mod doctype;
 mod ends;
@@ -9,6 +10,9 @@ mod opening;
 mod root;
 mod verdict;
 
+pub use check::Verdict;
+pub use check::check_document;
+pub use check::mark_length;
 pub use declaration::read_declaration;
 pub use doctype::read_doctype;
 pub use finding::Finding;
