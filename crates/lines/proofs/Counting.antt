@@ -1,6 +1,6 @@
 -- Lines and columns: what one more byte does to them. Assumes nothing.
 use mathlib.Core.Path.{_≡_, refl, sym, ap, _∙_}
-use mathlib.Core.Bool.{Bool, true, false, _&&_, not, and-true, and-false, and-assoc}
+use mathlib.Core.Bool.{Bool, true, false, _&&_, and-true, and-false, and-assoc}
 use mathlib.Core.List.{List, [], _∷_, _++_}
 use Prim.Native.Nat.{ℕ, suc, compare·suc-suc, _+_, _-_, _*_, _^_, _<_, _≤_}
 use native.Mathlib.Numerals.{add-one}
@@ -9,13 +9,14 @@ use borrow.Author.Needs.{needs}
 use mir.Syntax.{w64}
 use mir.Val.{Fits}
 use lib.Dec.{eqb}
-use lib.ListN.{length, getD, take, drop, length-take}
+use lib.ListN.{length, getD, take, drop}
 use lib.Seq.{take-suc, take-all, take-nil, length-take-le}
 use Rattle.spec.specs.Basics.{pick}
 use Rattle.spec.specs.Reading.Checks.{all-of}
 use Rattle.spec.specs.Reading.Readers.{run}
 use Rattle.spec.proofs.Base.Places.{drop-at, drop-end}
 use Rattle.spec.proofs.Base.Tests.{eqb-no, not-true, not-false}
+use Rattle.spec.proofs.Inside.Ways.{take-most}
 use Rattle.lines.specs.Lines.{ends-line, line-ends, on-line, last-line, continues, characters, line, column}
 
 -- of each there are no more than there are bytes
@@ -46,9 +47,6 @@ last-short (b ∷ w) = go (all-of on-line (b ∷ w)) (last-short w)
     go true h = omega arith
     go false h = omega arith
 
-front-short : (n : ℕ) (w : List ℕ) → length (take n w) ≤ length w
-front-short n w = omega (arith, length-take n w)
-
 -- LINES. The invariant: the lines before i, of which the last byte is a, and those that end from there on, are all that there are.
 module _ (s : List ℕ) (at i a n : ℕ) (inv : n + line-ends a (take (at - i) (drop i s)) ≡ line s at) where
   pub line-there : at ≤ i → n ≡ line s at
@@ -72,7 +70,7 @@ module _ (s : List ℕ) (at i a n : ℕ) (inv : n + line-ends a (take (at - i) (
 
     pub line-fits : t ≡ true → length s * 1 < 2 ^ 63 → Fits w64 (n + 1)
     unfolding line
-    line-fits f l = let z = turned true f in let k = ends-short 0 (take at s) in let m = front-short at s in omega arith
+    line-fits f l = let z = turned true f in let k = ends-short 0 (take at s) in let m = take-most at s in omega arith
 
 pub line-start : (s : List ℕ) (at : ℕ) → 1 + line-ends 0 (take (at - 0) (drop 0 s)) ≡ line s at
 unfolding line
