@@ -36,8 +36,8 @@ use Rattle.encodings.specs.Codings.{of}
 use Rattle.encodings.specs.Names.{told, declared-text, Declared, Names}
 use Rattle.encodings.specs.declared.codings.Coding.{Coding}
 use Rattle.encodings.specs.declared.codings.Coding.the-variants.{Utf8, Foreign}
-use Rattle.encodings.specs.declared.names.Named.{Named}
-use Rattle.encodings.specs.declared.names.Named.the-variants.{Unnamed, Name}
+use Rattle.encodings.specs.declared.xmldecl.Named.{Named}
+use Rattle.encodings.specs.declared.xmldecl.Named.the-variants.{Unnamed, Name}
 
 -- how far a reader came from a place on: r is its answer
 module _ (R : Reader) (s : List ℕ) (from : ℕ) (r : Answer) (a : said r ≡ read R s from) where

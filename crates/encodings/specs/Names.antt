@@ -6,8 +6,8 @@ use lib.ListN.{length, take, drop}
 use Rattle.spec.specs.Grammar.Encodings.{Encoding, unnamed, named}
 use Rattle.spec.specs.Grammar.Languages.{ascii}
 use Rattle.spec.specs.Reading.Readers.{before}
-use Rattle.encodings.specs.declared.names.Named.{Named}
-use Rattle.encodings.specs.declared.names.Named.the-variants.{Unnamed, Name}
+use Rattle.encodings.specs.declared.xmldecl.Named.{Named}
+use Rattle.encodings.specs.declared.xmldecl.Named.the-variants.{Unnamed, Name}
 
 -- none, or the text between two places of x
 unfoldable pub told : List ℕ → Named → Encoding

@@ -2,17 +2,17 @@
 mod codings;
 mod ends;
 mod legal;
-mod names;
 mod wide;
+mod xmldecl;
 
 pub use codings::Coding;
 pub use codings::coding_of;
 pub use ends::end_number;
 pub use ends::end_number_at;
 pub use legal::legal_end;
-pub use names::Named;
-pub use names::coding_in;
-pub use names::encoding_read;
-pub use names::find_encoding;
 pub use wide::Wide;
 pub use wide::looks_like;
+pub use xmldecl::Named;
+pub use xmldecl::coding_in;
+pub use xmldecl::encoding_read;
+pub use xmldecl::find_encoding;

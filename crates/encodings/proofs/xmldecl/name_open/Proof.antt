@@ -1,7 +1,7 @@
--- `encodings::names::name_open` meets its contract. Assumes nothing.
+-- `encodings::xmldecl::name_open` meets its contract. Assumes nothing.
 use Rattle.encodings.proofs.Finding.{reaching}
-use Rattle.encodings.proofs.names.name_open.Statement.{statement}
-use Rattle.encodings.proofs.names.name_open.Tie as tie
+use Rattle.encodings.proofs.xmldecl.name_open.Statement.{statement}
+use Rattle.encodings.proofs.xmldecl.name_open.Tie as tie
 
 pub name-open-spec : {M : Type 1} → statement M
 name-open-spec =
