@@ -1,5 +1,5 @@
 -- `encodings::wide::looks_like` meets its contract. Assumes nothing.
-use Rattle.encodings.proofs.Naming.{looking}
+use Rattle.encodings.proofs.Looking.{looking}
 use Rattle.encodings.proofs.wide.looks_like.Statement.{statement}
 use Rattle.encodings.proofs.wide.looks_like.Tie as tie
 
