@@ -1,12 +1,14 @@
-// Checks the XML declaration and the DOCTYPE of the files that its arguments name, and writes a line for each.
+// Checks the prolog of the files that its arguments name, and says what it finds. The check is document::check_document; what stands here
+// reads arguments and files and writes reports.
 ghost use mathlib.Core.Path.{_≡_};
 ghost use lib.ListN.{length};
 
 mod bytes;
-mod check;
+mod escape;
 mod file;
 mod options;
 mod report;
+mod show;
 mod usage;
 mod words;
 
@@ -38,14 +40,23 @@ fn room() -> [u8; 2097153]
     [0; 2097153]
 }
 
+// How much is said.
+struct Manner {
+    quiet: bool,
+    verbose: bool,
+}
+
 // Checks one file, and answers the status that it asks for.
-fn check_file(name: &[u8], verbose: bool, held: &mut [u8], out: &mut [u8]) -> u8 {
-    match file::fill(name, held) {
+fn check_file(name: &[u8], manner: Manner, held: &mut [u8], out: &mut [u8]) -> u8 {
+    match file::fill(name, held, out) {
         Filled::Failed => FAILED,
         Filled::Bytes(n) => {
             let text = file::text(held, n);
-            let verdict = check::walk(text, n <= file::HELD);
-            if report::say(out, name, text, verdict, verbose) {
+            let verdict = document::check_document(text, n <= file::HELD);
+            if manner.quiet {
+                return status_of(verdict);
+            }
+            if report::say(out, name, text, verdict, manner.verbose) {
                 return status_of(verdict);
             }
             unwritten()
@@ -53,11 +64,11 @@ fn check_file(name: &[u8], verbose: bool, held: &mut [u8], out: &mut [u8]) -> u8
     }
 }
 
-fn status_of(verdict: check::Verdict) -> u8 {
-    match verdict {
-        check::Verdict::Accepted(_) => GOOD,
-        check::Verdict::Refused(_, _) => REFUSED,
+fn status_of(verdict: document::Verdict) -> u8 {
+    if verdict.number == error::ACCEPTED {
+        return GOOD;
     }
+    REFUSED
 }
 
 // A report that did not reach its reader is a failure like a file that was not read.
@@ -70,7 +81,7 @@ fn unwritten() -> u8 {
 fn argument(
     before: Progress,
     i: usize,
-    verbose: bool,
+    manner: Manner,
     word: &mut [u8],
     held: &mut [u8],
     out: &mut [u8],
@@ -79,7 +90,7 @@ fn argument(
     if os::errno() != 0 {
         return with(before, unnamed());
     }
-    named(before, bytes::front(word, n), verbose, held, out)
+    named(before, bytes::front(word, n), manner, held, out)
 }
 
 // An argument that cannot be had is a failure like a file that was not read.
@@ -91,17 +102,18 @@ fn unnamed() -> u8 {
 fn named(
     before: Progress,
     name: &[u8],
-    verbose: bool,
+    manner: Manner,
     held: &mut [u8],
     out: &mut [u8],
 ) -> Progress {
     match options::kind(name, before.ended) {
-        Word::File => with(before, check_file(name, verbose, held, out)),
+        Word::File | Word::Input => with(before, check_file(name, manner, held, out)),
         Word::End => Progress {
             status: before.status,
             ended: true,
         },
-        Word::Verbose | Word::Help | Word::Numbers | Word::Unknown => before,
+        Word::Verbose | Word::Quiet | Word::Help | Word::Version | Word::Numbers | Word::Unknown =>
+            before,
     }
 }
 
@@ -117,7 +129,7 @@ fn worse(a: u8, b: u8) -> u8 {
     if a < b { b } else { a }
 }
 
-fn check_all(verbose: bool, word: &mut [u8], held: &mut [u8], out: &mut [u8]) -> u8 {
+fn check_all(manner: Manner, word: &mut [u8], held: &mut [u8], out: &mut [u8]) -> u8 {
     let count = os::arg_count();
     let mut progress = Progress {
         status: GOOD,
@@ -125,7 +137,7 @@ fn check_all(verbose: bool, word: &mut [u8], held: &mut [u8], out: &mut [u8]) ->
     };
     let mut i = 1;
     while i < count {
-        progress = argument(progress, i, verbose, word, held, out);
+        progress = argument(progress, i, manner, word, held, out);
         i += 1;
     }
     progress.status
@@ -134,10 +146,13 @@ fn check_all(verbose: bool, word: &mut [u8], held: &mut [u8], out: &mut [u8]) ->
 // Does what the options ask for, and answers the status.
 fn run(options: Options, word: &mut [u8], held: &mut [u8], out: &mut [u8]) -> u8 {
     if options.unknown != 0 {
-        return unknown(options.unknown, word);
+        return unknown(options.unknown, word, out);
     }
     if options.help {
         return written(usage::help());
+    }
+    if options.version {
+        return written(usage::version());
     }
     if options.numbers {
         return written(words::table());
@@ -146,13 +161,21 @@ fn run(options: Options, word: &mut [u8], held: &mut [u8], out: &mut [u8]) -> u8
         usage::wrong();
         return FAILED;
     }
-    check_all(options.verbose, word, held, out)
+    if options.twice {
+        usage::twice();
+        return FAILED;
+    }
+    let manner = Manner {
+        quiet: options.quiet,
+        verbose: options.verbose,
+    };
+    check_all(manner, word, held, out)
 }
 
 // Says which option is not known: argument `i`.
-fn unknown(i: usize, word: &mut [u8]) -> u8 {
+fn unknown(i: usize, word: &mut [u8], out: &mut [u8]) -> u8 {
     let n = os::arg(i, word);
-    usage::unknown(bytes::front(word, n));
+    usage::unknown(out, bytes::front(word, n));
     FAILED
 }
 

@@ -4,8 +4,12 @@ use crate::bytes;
 // What an argument is.
 pub enum Word {
     File,
+    // `-`: standard input.
+    Input,
     Verbose,
+    Quiet,
     Help,
+    Version,
     Numbers,
     // `--`: every argument after it is a file.
     End,
@@ -14,8 +18,13 @@ pub enum Word {
 
 pub struct Options {
     pub verbose: bool,
+    pub quiet: bool,
     pub help: bool,
+    pub version: bool,
     pub numbers: bool,
+    // Whether standard input is asked for, and whether a second time: it can be read only once.
+    pub input: bool,
+    pub twice: bool,
     // The last unknown option, by its place among the arguments; 0 where there is none.
     pub unknown: usize,
     // The last file, likewise.
@@ -24,22 +33,29 @@ pub struct Options {
     pub ended: bool,
 }
 
+// A `-` alone is standard input, also after `--`: a file of that name is `./-`.
 pub fn kind(word: &[u8], ended: bool) -> Word {
-    if ended {
-        return Word::File;
-    }
     if utf8::byte_at(word, 0) != b'-' {
         return Word::File;
     }
-    // A `-` alone is standard input.
     if word.len() == 1 {
+        return Word::Input;
+    }
+    if ended {
         return Word::File;
     }
     if word.len() == 2 {
         return short(utf8::byte_at(word, 1));
     }
+    long(word)
+}
+
+fn long(word: &[u8]) -> Word {
     if bytes::same(word, b"--help") {
         return Word::Help;
+    }
+    if bytes::same(word, b"--version") {
+        return Word::Version;
     }
     if bytes::same(word, b"--numbers") {
         return Word::Numbers;
@@ -51,6 +67,8 @@ pub fn kind(word: &[u8], ended: bool) -> Word {
 fn short(sign: u8) -> Word {
     match sign {
         b'v' => Word::Verbose,
+        b'q' => Word::Quiet,
+        b'h' => Word::Help,
         b'-' => Word::End,
         _ => Word::Unknown,
     }
@@ -61,8 +79,12 @@ pub fn read(word: &mut [u8]) -> Options {
     let count = os::arg_count();
     let mut options = Options {
         verbose: false,
+        quiet: false,
         help: false,
+        version: false,
         numbers: false,
+        input: false,
+        twice: false,
         unknown: 0,
         file: 0,
         ended: false,
@@ -82,11 +104,22 @@ fn next(before: Options, i: usize, word: &mut [u8]) -> Options {
         Word::File => {
             options.file = i;
         }
+        Word::Input => {
+            options.file = i;
+            options.twice = before.twice | before.input;
+            options.input = true;
+        }
         Word::Verbose => {
             options.verbose = true;
         }
+        Word::Quiet => {
+            options.quiet = true;
+        }
         Word::Help => {
             options.help = true;
+        }
+        Word::Version => {
+            options.version = true;
         }
         Word::Numbers => {
             options.numbers = true;

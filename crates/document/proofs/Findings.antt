@@ -28,8 +28,8 @@ use Rattle.encodings.specs.Codings.{of}
 use Rattle.encodings.specs.Names.{told, start-of}
 use Rattle.encodings.specs.declared.codings.Coding.{Coding}
 use Rattle.encodings.specs.declared.codings.Coding.the-variants.{Utf8, Bytes, Foreign}
-use Rattle.encodings.specs.declared.names.Named.{Named}
-use Rattle.encodings.specs.declared.names.Named.the-variants.{Unnamed, Name}
+use Rattle.encodings.specs.declared.xmldecl.Named.{Named}
+use Rattle.encodings.specs.declared.xmldecl.Named.the-variants.{Unnamed, Name}
 use Rattle.document.specs.Judgements as Judgements
 use Rattle.document.specs.Judgements.{Judgement, accepts as accepts-all, refuses, ends, lacks-root, judged, in-full, told-text}
 use Rattle.document.specs.Findings.{found-text, found, is-accepted}

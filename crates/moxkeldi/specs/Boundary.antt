@@ -1,10 +1,13 @@
 -- What C's results say: numbers for the enums of the calls behind them. Assumes nothing: these are definitions.
 use mathlib.Core.Path.{_≡_}
-use mathlib.Core.List.{List}
+use mathlib.Core.Bool.{Bool, true, false}
+use mathlib.Core.List.{List, [], _∷_}
 use Prim.Native.Nat.{ℕ}
 use Rattle.spec.specs.Reading.Scan.{not-opened, not-closed, closed}
 use Rattle.scan.specs.Answers.{Gives, gives, gives-none, scan-number, scan-gives, Scans}
 use Rattle.scan.specs.declared.calls.Scanned.{Scanned}
+use Rattle.document.specs.Judges.{Judges}
+use Rattle.document.specs.declared.check.Verdict.{Verdict}
 use Rattle.gate.specs.Promises.{Docks}
 use Rattle.gate.specs.declared.state.Gate.{Gate}
 use Rattle.gate.specs.declared.state.Reply.{Reply}
@@ -41,3 +44,16 @@ pub record DocksCoded (g : Gate) (phase : ℕ) (w : List ℕ) (h : Gate) (n : �
   pub reply : Reply
   pub code : n ≡ code-of reply
   pub docks : Docks g phase w h reply
+
+-- yes or no as a number
+abbrev pub bit : Bool → ℕ
+bit true = 1
+bit false = 0
+
+-- moxkeldi_check_document returns n and leaves these numbers in *verdict: the promise of the check of a document that is at hand as a whole, field
+-- by field in the order of the struct
+pub record JudgesInto (w : List ℕ) (n : ℕ) (fields : List ℕ) : Type 0 where
+  pub verdict : Verdict
+  pub judges : Judges true w verdict
+  pub number : n ≡ verdict .number
+  pub told : fields ≡ verdict .place ∷ verdict .line ∷ verdict .column ∷ verdict .opened ∷ bit (verdict .«has_doctype») ∷ verdict .«doctype_start» ∷ verdict .«doctype_end» ∷ verdict .unread ∷ []

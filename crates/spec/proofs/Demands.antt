@@ -20,7 +20,6 @@ use Rattle.spec.specs.Reading.Checks.{check-declaration, is-ncname}
 use Rattle.spec.specs.Reading.Document.{legal-length}
 use Rattle.spec.specs.Reading.Dtd.{check-doctype}
 use Rattle.spec.specs.Reading.Entries.{declarations}
-use Rattle.spec.specs.Reading.Prolog.{declaration, doctype, doctype-end, next-item}
 use Rattle.spec.specs.Reading.Readers.{ok, err, Reader, nothing}
 use Rattle.spec.specs.Reading.Refusals.{Refusal}
 use Rattle.spec.specs.Reading.Places.{at}
@@ -50,8 +49,6 @@ use Rattle.spec.proofs.Dtd.Depth.{met-exactly-B, deeper-same-B}
 use Rattle.spec.proofs.Dtd.Texts.{doctype-agrees}
 use Rattle.spec.proofs.Inside.Chars.{illegal-there, none-before}
 use Rattle.spec.proofs.Inside.Checks.{chars-placed, char-refs-placed, text-placed, attr-value-placed, name-placed, doctype-placed, declaration-placed}
-use Rattle.spec.proofs.Prolog.Handed.{doctype-handed, declaration-handed}
-use Rattle.spec.proofs.Prolog.Heads.{doctype-ends}
 use Rattle.spec.proofs.Rows
 use Rattle.spec.proofs.Conditions
 use Rattle.spec.proofs.Wellformed.LongestName.{Takes}
@@ -170,19 +167,6 @@ illegal-told = illegal-there
 
 pub legal-before : (w : List ℕ) (r : Refusal) (k i : ℕ) → check-chars w ≡ err r k → i < k → illegal-here (drop i w) ≡ false
 legal-before = none-before
-
--- The command's part: of a text that demand 3 speaks of, the prolog's rule finds the end where it stands, and hands over that very text,
--- whatever white space, comments and instructions stand before the DOCTYPE.
-pub doctype-found : (t r : List ℕ) → Covered appendix-B t → doctype-end (t ++ 62 ∷ r) ≡ at (length t)
-doctype-found = doctype-ends appendix-B appendix-B-ascii
-
-pub doctype-handed-over : (m t r : List ℕ) → Star (Misc appendix-B) m → Covered appendix-B t
-    → next-item (m ++ (ascii "<!DOCTYPE" ++ (t ++ (62 ∷ r)))) ≡ doctype (length m + 9) (length m + 9 + length t)
-doctype-handed-over = doctype-handed appendix-B appendix-B-ascii
-
--- Of an XML declaration it hands over what stands between "<?" and "?>".
-pub declaration-handed-over : (t r : List ℕ) → XMLDecl t → next-item (ascii "<?" ++ (t ++ (ascii "?>" ++ r))) ≡ declaration 2 (2 + length t)
-declaration-handed-over = declaration-handed
 
 -- A whole document. It is accepted exactly where, after a byte order mark if there is one, it begins with a prolog that the grammar derives
 -- and with '<' and a Name, in characters that its encoding has in common with UTF-8.

@@ -8,6 +8,5 @@ pub mod Checks
 pub mod Rows
 pub mod Conditions
 pub mod Division
-pub mod Prolog
 pub mod Document
 pub mod Demands

@@ -12,4 +12,3 @@ pub mod Entries
 pub mod Gate
 pub mod Document
 pub mod Verdict
-pub mod Prolog

@@ -1,10 +1,10 @@
--- `command::report::line_start` is safe and ends. The measure is what is left of the text. Assumes nothing.
+-- `command::show::start_of` is safe and ends. Assumes nothing.
 use Prim.Native.Nat.{_-_}
-use lib.ListN.{length}
 use mathlib.Core.Path.{_≡_}
+use lib.ListN.{length}
 use borrow.Author.Needs.{needs}
-use Rattle.command.proofs.report.line_start.Statement.{statement}
-use Rattle.command.proofs.report.line_start.Tie as tie
+use Rattle.command.proofs.show.start_of.Statement.{statement}
+use Rattle.command.proofs.show.start_of.Tie as tie
 
 abbrev Inv-loop : tie.InvT-loop
 Inv-loop text at start₀ i₀ start i = length text ≡ length text
@@ -12,13 +12,14 @@ Inv-loop text at start₀ i₀ start i = length text ≡ length text
 abbrev μ-loop : tie.MeasureT-loop
 μ-loop text at start₀ i₀ start i = length text - i
 
-pub line-start-spec : {M : Type 1} → statement M
-line-start-spec =
+pub start-of-spec : {M : Type 1} → statement M
+start-of-spec =
     tie.close
     (tie.spec
     Inv-loop
     μ-loop
     (λ c κs. search needs)  -- back-requires
+    (λ c κs. search needs)  -- whole-character-requires
     (λ c. search needs)  -- loop-holds
     (λ c. search needs)  -- returns
     (λ c. search needs)  -- shared-slice-read-b
