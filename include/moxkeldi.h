@@ -125,7 +125,7 @@ static inline const char *moxkeldi_words(uint8_t number)
  */
 typedef struct {
     size_t place;         /* how many bytes stand before the place of the refusal; where accepted, before the root element */
-    size_t line;          /* its line, from 1 */
+    size_t line;          /* its line, from 1; a line ends with CR, LF or CR LF */
     size_t column;        /* its column, from 1, in characters; a byte order mark counts for none */
     size_t opened;        /* where what does not end was opened; the same as `place` where nothing was */
     size_t has_doctype;   /* 1 where the document is accepted and has a DOCTYPE, else 0 */
