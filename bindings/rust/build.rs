@@ -7,12 +7,10 @@ use std::process::Command;
 fn main() {
     println!("cargo:rerun-if-changed=build.rs");
     println!("cargo:rerun-if-env-changed=MOXKELDI_LIB");
-    let named = env::var_os("MOXKELDI_LIB").filter(|path| !path.is_empty());
-    let archive = match named {
-        Some(path) => PathBuf::from(path),
+    let archive = match env::var_os("MOXKELDI_LIB").filter(|path| !path.is_empty()) {
+        Some(path) => named(path.into()),
         None => built_here(),
     };
-    println!("cargo:rerun-if-changed={}", archive.display());
 
     // The linker looks for a file of this name, whatever the archive is called.
     let out = PathBuf::from(env::var_os("OUT_DIR").expect("cargo sets OUT_DIR"));
@@ -27,7 +25,15 @@ fn main() {
     println!("cargo:rustc-link-lib=static=moxkeldi");
 }
 
+fn named(archive: PathBuf) -> PathBuf {
+    println!("cargo:rerun-if-changed={}", archive.display());
+    archive
+}
+
 /// Builds the archive from the proved crates. Nothing is proved again that has not changed.
+///
+/// Only the sources are watched: cargo runs this script again where a watched file is younger than the beginning of its last run, as each
+/// file is that the run itself has written, the archive and its copy among them.
 fn built_here() -> PathBuf {
     let manifest = env::var_os("CARGO_MANIFEST_DIR").expect("cargo sets CARGO_MANIFEST_DIR");
     let root = Path::new(&manifest).join("../..");

@@ -1,8 +1,22 @@
-//! Checks of an XML document's DOCTYPE and XML declaration.
+//! Checks of an XML document's prolog: its XML declaration, its DOCTYPE, and what stands around them.
+//!
+//! ```
+//! let job = b"<?xml version=\"1.0\"?>
+//! <!DOCTYPE job [<!ATTLIST waypoint reference CDATA \"WGS84\">]>
+//! <job><waypoint/></job>";
+//! let document = moxkeldi::check_document(job)?;
+//! assert_eq!(document.root(), 83);
+//!
+//! let fault = moxkeldi::check_document(b"<!DOCTYPE job SYSTEM job.dtd>\n<job/>").unwrap_err();
+//! assert_eq!(fault.to_string(), "1:22: a quoted literal is missing");
+//! # Ok::<(), moxkeldi::Fault>(())
+//! ```
 //!
 //! The work is done by libmoxkeldi.a, a port of the declaration part of fastxml that is proved to end and to stay within its
 //! arguments on all bytes, and to accept exactly what a grammar written from W3C XML 1.0 derives. This crate is the thin safe layer
 //! over it. The proof does not cover this layer; its tests do.
+//!
+//! The other calls are for those who have cut a document into its parts already:
 //!
 //! ```
 //! use moxkeldi::{check_doctype, Refusal};
@@ -31,7 +45,8 @@
 //! # Ok::<(), moxkeldi::Refusal>(())
 //! ```
 //!
-//! Texts are bytes, since "not UTF-8" is one of the answers. No text of more than [`LIMIT`] bytes is looked at.
+//! Texts are bytes, since "not UTF-8" is one of the answers. No text of more than [`LIMIT`] bytes is looked at; of a document, no longer
+//! DOCTYPE.
 //!
 //! The build takes the archive that the environment variable `MOXKELDI_LIB` names (a whole path), or runs `rt staticlib moxkeldi`.
 
@@ -39,6 +54,7 @@
 #![deny(unsafe_code)]
 
 mod checks;
+mod document;
 mod gate;
 mod places;
 mod refusal;
@@ -49,10 +65,11 @@ pub use checks::{
     check_attr_value, check_char_refs, check_chars, check_declaration, check_doctype, check_name,
     check_text, check_utf8, is_ncname, LIMIT,
 };
+pub use document::{check_document, Document, Fault};
 pub use gate::{Doctype, Gate, Phase};
 pub use places::{
     check_attr_value_at, check_char_refs_at, check_chars_at, check_declaration_at,
     check_doctype_at, check_name_at, check_text_at, Refused,
 };
-pub use refusal::Refusal;
+pub use refusal::{Refusal, UnknownNumber};
 pub use scan::{scan, Scan};

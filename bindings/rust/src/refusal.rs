@@ -95,6 +95,44 @@ impl Refusal {
     }
 }
 
+/// The refusal with a number of the table.
+///
+/// ```
+/// use moxkeldi::Refusal;
+/// assert_eq!(Refusal::try_from(12), Ok(Refusal::DoubleHyphen));
+/// let unknown = Refusal::try_from(22).unwrap_err();
+/// assert_eq!(unknown.number(), 22);
+/// assert_eq!(unknown.to_string(), "22 is no number of a refusal");
+/// ```
+impl TryFrom<u8> for Refusal {
+    type Error = UnknownNumber;
+
+    fn try_from(number: u8) -> Result<Refusal, UnknownNumber> {
+        Refusal::from_number(number).ok_or(UnknownNumber { number })
+    }
+}
+
+/// A number that stands for no refusal: 0, which says that a text is accepted, and any that the table does not have.
+#[derive(Debug, Clone, Copy, PartialEq, Eq, Hash)]
+pub struct UnknownNumber {
+    number: u8,
+}
+
+impl UnknownNumber {
+    /// The number.
+    pub const fn number(&self) -> u8 {
+        self.number
+    }
+}
+
+impl fmt::Display for UnknownNumber {
+    fn fmt(&self, f: &mut fmt::Formatter<'_>) -> fmt::Result {
+        write!(f, "{} is no number of a refusal", self.number)
+    }
+}
+
+impl std::error::Error for UnknownNumber {}
+
 impl fmt::Display for Refusal {
     fn fmt(&self, f: &mut fmt::Formatter<'_>) -> fmt::Result {
         f.write_str(self.words())
@@ -125,10 +163,12 @@ mod tests {
         for (k, refusal) in Refusal::ALL.iter().enumerate() {
             assert_eq!(refusal.number() as usize, k + 1);
             assert_eq!(Refusal::from_number(refusal.number()), Some(*refusal));
+            assert_eq!(Refusal::try_from(refusal.number()), Ok(*refusal));
             assert!(!refusal.to_string().is_empty());
         }
         for number in (22..=255).chain([0]) {
             assert_eq!(Refusal::from_number(number), None);
+            assert_eq!(Refusal::try_from(number), Err(UnknownNumber { number }));
         }
     }
 

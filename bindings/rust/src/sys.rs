@@ -17,6 +17,20 @@ pub(crate) struct RawGate {
     pub(crate) refused: u16,
 }
 
+/// `moxkeldi_verdict`.
+#[repr(C)]
+#[derive(Default)]
+pub(crate) struct RawVerdict {
+    pub(crate) place: usize,
+    pub(crate) line: usize,
+    pub(crate) column: usize,
+    pub(crate) opened: usize,
+    pub(crate) has_doctype: usize,
+    pub(crate) doctype_start: usize,
+    pub(crate) doctype_end: usize,
+    pub(crate) unread: usize,
+}
+
 /// What the library says of a scan.
 pub(crate) struct RawScan {
     pub(crate) number: u8,
@@ -25,9 +39,14 @@ pub(crate) struct RawScan {
 }
 
 mod c {
-    use super::RawGate;
+    use super::{RawGate, RawVerdict};
 
     extern "C" {
+        pub(super) fn moxkeldi_check_document(
+            text: *const u8,
+            len: usize,
+            verdict: *mut RawVerdict,
+        ) -> u8;
         pub(super) fn moxkeldi_check_chars(text: *const u8, len: usize) -> u8;
         pub(super) fn moxkeldi_check_text(text: *const u8, len: usize) -> u8;
         pub(super) fn moxkeldi_check_attr_value(text: *const u8, len: usize) -> u8;
@@ -75,6 +94,12 @@ mod c {
             len: usize,
         ) -> u8;
     }
+}
+
+pub(crate) fn check_document(text: &[u8]) -> (u8, RawVerdict) {
+    let mut verdict = RawVerdict::default();
+    let number = unsafe { c::moxkeldi_check_document(text.as_ptr(), text.len(), &mut verdict) };
+    (number, verdict)
 }
 
 macro_rules! of_text {
