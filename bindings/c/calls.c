@@ -131,6 +131,57 @@ static void places(void)
     AT(check_declaration_at, "xml version='1.0'", "", MOXKELDI_ACCEPTED);
 }
 
+/* All fields hold something else before the call, so one that is not written is seen. */
+static void told(const char *what, const uint8_t *text, size_t len, uint8_t wanted, moxkeldi_verdict fields)
+{
+    moxkeldi_verdict verdict = {7777, 7777, 7777, 7777, 7777, 7777, 7777, 7777};
+    expect("check_document", what, moxkeldi_check_document(text, len, &verdict), wanted);
+    expect("check_document, place", what, verdict.place, fields.place);
+    expect("check_document, line", what, verdict.line, fields.line);
+    expect("check_document, column", what, verdict.column, fields.column);
+    expect("check_document, opened", what, verdict.opened, fields.opened);
+    expect("check_document, has_doctype", what, verdict.has_doctype, fields.has_doctype);
+    expect("check_document, doctype_start", what, verdict.doctype_start, fields.doctype_start);
+    expect("check_document, doctype_end", what, verdict.doctype_end, fields.doctype_end);
+    expect("check_document, unread", what, verdict.unread, fields.unread);
+}
+
+static void documents(void)
+{
+    const struct {
+        const char *text;
+        uint8_t number;
+        moxkeldi_verdict verdict; /* place, line, column, opened; has_doctype, doctype_start, doctype_end, unread */
+    } rows[] = {
+        {"<a/>", MOXKELDI_ACCEPTED, {0, 1, 1, 0, 0, 0, 0, 0}},
+        {"\xef\xbb\xbf<?xml version='1.0'?>\r\n<!-- b -->\r<a", MOXKELDI_ACCEPTED, {37, 3, 1, 37, 0, 0, 0, 0}},
+        {"<!DOCTYPE a>\n<a/>", MOXKELDI_ACCEPTED, {13, 2, 1, 13, 1, 9, 11, 0}},
+        {"<!DOCTYPE a [%p;<!ELEMENT><!ENTITY b ''>]> <a/>", MOXKELDI_ACCEPTED, {43, 1, 44, 43, 1, 9, 41, 2}},
+        {"<?xml version='1.0' encoding='windows-1252'?><a>\xe9</a>", MOXKELDI_ACCEPTED, {45, 1, 46, 45, 0, 0, 0, 0}},
+        /* something wrong, or missing */
+        {"<?xml version='2.0'?><a/>", MOXKELDI_DECLARATION_VALUE, {15, 1, 16, 15, 0, 0, 0, 0}},
+        {"<?xml version='1.0' encoding='UTF-16'?><a/>", MOXKELDI_NOT_UTF8, {30, 1, 31, 30, 0, 0, 0, 0}},
+        {"<!DOCTYPE a [\n<!ATTLIST b \xc3\xa9 CDATA'c'>]><a/>", MOXKELDI_SPACE_REQUIRED, {34, 2, 20, 34, 0, 0, 0, 0}},
+        {"<!DOCTYPE a>\n <!DOCTYPE a><a/>", MOXKELDI_OUT_OF_PLACE, {14, 2, 2, 14, 0, 0, 0, 0}},
+        {"a", MOXKELDI_UNEXPECTED, {0, 1, 1, 0, 0, 0, 0, 0}},
+        /* something without its end, and where it was opened */
+        {"<!-- b\n", MOXKELDI_UNTERMINATED, {7, 2, 1, 0, 0, 0, 0, 0}},
+        {"<!DOCTYPE a [<!ENTITY b 'c>]><a/>", MOXKELDI_UNTERMINATED, {33, 1, 34, 13, 0, 0, 0, 0}},
+        {"<!DOCTYPE a SYSTEM 'b\x01'><a/>", MOXKELDI_ILLEGAL_CHARACTER, {21, 1, 22, 19, 0, 0, 0, 0}},
+        {"<!-- b \xe9 --><a/>", MOXKELDI_NOT_UTF8, {7, 1, 8, 0, 0, 0, 0, 0}},
+        /* a document that ends before its root */
+        {"", MOXKELDI_UNTERMINATED, {0, 1, 1, 0, 0, 0, 0, 0}},
+        {"<!DOCTYPE a>\n", MOXKELDI_UNTERMINATED, {13, 2, 1, 13, 0, 0, 0, 0}},
+    };
+    for (size_t k = 0; k < sizeof rows / sizeof rows[0]; k++) {
+        size_t len = strlen(rows[k].text);
+        uint8_t *copy = copied(rows[k].text, len);
+        told(rows[k].text, copy, len, rows[k].number, rows[k].verdict);
+        free(copy);
+    }
+    told("NULL", NULL, 0, MOXKELDI_UNTERMINATED, (moxkeldi_verdict){0, 1, 1, 0, 0, 0, 0, 0});
+}
+
 static void depth(void)
 {
     char text[200];
@@ -330,6 +381,7 @@ static void gates(void)
 
 int main(void)
 {
+    documents();
     checks();
     places();
     depth();

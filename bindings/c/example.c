@@ -1,21 +1,55 @@
 /*
- * example [FILE]: checks a DOCTYPE, the text between `<!DOCTYPE` and its closing `>`, read from FILE or, with "-" or no argument,
- * from standard input. Writes one line: whether it is accepted, or why not and at which byte. Exit status: 0 accepted, 1 refused,
- * 2 the text could not be read.
+ * example [FILE]: checks the prolog of an XML document, read from FILE or, with "-" or no argument, from standard input. Writes one line,
+ *
+ *     FILE: accepted
+ *     FILE:LINE:COLUMN: refused with NUMBER: the number in words
+ *
+ * Exit status: 0 accepted, 1 refused, 2 the document could not be read.
  */
 #include <moxkeldi.h>
 
 #include <errno.h>
 #include <stdio.h>
+#include <stdlib.h>
 #include <string.h>
 
-/* A longer text is refused by its length alone, so one byte beyond the limit is all that has to be read. */
-static uint8_t text[MOXKELDI_LIMIT + 1];
+/* All bytes of a file, in memory that the caller frees, whatever the answer: whether all could be read. If not, errno says why. */
+static bool read_whole(FILE *in, uint8_t **text, size_t *len)
+{
+    size_t room = 0;
+    *text = NULL;
+    *len = 0;
+    for (;;) {
+        if (*len == room) {
+            room = room == 0 ? 65536 : 2 * room;
+            uint8_t *larger = realloc(*text, room);
+            if (larger == NULL)
+                return false;
+            *text = larger;
+        }
+        size_t more = fread(*text + *len, 1, room - *len, in);
+        if (more == 0)
+            return !ferror(in);
+        *len += more;
+    }
+}
 
 static int unreadable(const char *name)
 {
     fprintf(stderr, "example: cannot read %s: %s\n", name, strerror(errno));
     return 2;
+}
+
+static int check(const char *name, const uint8_t *text, size_t len)
+{
+    moxkeldi_verdict verdict;
+    uint8_t number = moxkeldi_check_document(text, len, &verdict);
+    if (number == MOXKELDI_ACCEPTED) {
+        printf("%s: accepted\n", name);
+        return 0;
+    }
+    printf("%s:%zu:%zu: refused with %u: %s\n", name, verdict.line, verdict.column, (unsigned)number, moxkeldi_words(number));
+    return 1;
 }
 
 int main(int argc, char **argv)
@@ -28,18 +62,11 @@ int main(int argc, char **argv)
     FILE *in = strcmp(name, "-") == 0 ? stdin : fopen(name, "rb");
     if (in == NULL)
         return unreadable(name);
-    size_t len = fread(text, 1, sizeof text, in);
-    if (ferror(in))
-        return unreadable(name);
+    uint8_t *text;
+    size_t len;
+    int status = read_whole(in, &text, &len) ? check(name, text, len) : unreadable(name);
+    free(text);
     if (in != stdin)
         fclose(in);
-
-    size_t place;
-    uint8_t number = moxkeldi_check_doctype_at(text, len, &place);
-    if (number == MOXKELDI_ACCEPTED) {
-        puts("accepted");
-        return 0;
-    }
-    printf("refused with %u at byte %zu: %s\n", (unsigned)number, place, moxkeldi_words(number));
-    return 1;
+    return status;
 }
