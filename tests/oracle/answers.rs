@@ -1,4 +1,6 @@
 //! The calls without a record, answered as the lists write them.
+use crate::doctypes;
+use crate::document::{check_document, declaration_stop, verdict_text};
 use crate::numbers::of_result;
 use crate::parser::checks::reached;
 use crate::parser::{dtd, dtd_limited, wellformed};
@@ -42,8 +44,30 @@ fn check(call: &str, text: &str) -> Option<u8> {
     })
 }
 
+/// The number and the place of a check, by the readers of the reference; None for the checks that it has no reader of.
+pub fn stop(call: &str, text: &[u8]) -> Option<(u8, usize)> {
+    let reader = match call {
+        "check_doctype" => doctypes::stop,
+        "check_declaration" => declaration_stop,
+        _ => return None,
+    };
+    Some(match admit(text) {
+        Ok(text) => reader(text),
+        Err(1) => (1, 0),
+        Err(number) => (number, std::str::from_utf8(text).unwrap_err().valid_up_to()),
+    })
+}
+
 /// The answer of a call; None where there is no such call.
 pub fn answer(call: &str, text: &[u8]) -> Option<String> {
+    // the one call that the Rust does not have; its text may have any length
+    if call == "check_document" {
+        return Some(verdict_text(&check_document(text)));
+    }
+    if let Some(plain) = call.strip_suffix("_at") {
+        let (number, place) = stop(plain, text)?;
+        return Some(format!("{number}@{place}"));
+    }
     let admitted = admit(text);
     Some(match (call, admitted) {
         ("utf8" | "is_ncname", Err(number)) => format!("{number}n"),

@@ -39,10 +39,14 @@ mod parser {
 }
 
 mod answers;
+mod declarations;
 mod depth;
+mod doctypes;
+mod document;
 mod gate;
 mod numbers;
 pub mod raw;
+mod reading;
 
-pub use answers::{LIMIT, answer};
+pub use answers::{LIMIT, answer, stop};
 pub use gate::{Gate, Record, record_text};

@@ -37,7 +37,7 @@ fn line(whole: &str) -> Option<Line> {
 }
 
 /// Hexadecimal pieces joined by `+`, each with an optional `*count`.
-fn text_of(column: &str) -> Option<Vec<u8>> {
+pub fn text_of(column: &str) -> Option<Vec<u8>> {
     let mut text = Vec::new();
     for piece in column.split('+') {
         let (digits, count) = match piece.split_once('*') {
