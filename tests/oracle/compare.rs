@@ -9,6 +9,7 @@ mod generate;
 mod lists;
 mod places;
 mod port;
+mod prologs;
 mod random;
 
 use oracle::{Gate, Record, answer, record_text};
@@ -19,6 +20,14 @@ const LONGEST_SAMPLE: usize = 4000;
 /// The Rust takes a call for each open group, and a text of 1 MiB can open a million.
 const STACK: usize = 1 << 30;
 
+/// Who is asked beside the port.
+fn judge(call: &str) -> &'static str {
+    match call {
+        "check_document" => "the reference",
+        _ => "the Rust",
+    }
+}
+
 /// Prints a difference, with at most `shown` bytes of the text.
 fn difference(call: &str, wanted: &str, given: &str, text: &[u8], shown: usize) {
     let rest = text.len().saturating_sub(shown);
@@ -28,7 +37,8 @@ fn difference(call: &str, wanted: &str, given: &str, text: &[u8], shown: usize) 
         String::new()
     };
     let front = text[..text.len() - rest].escape_ascii();
-    println!("{call}: the Rust answers {wanted}, the port {given}, on \"{front}\"{more}");
+    let judge = judge(call);
+    println!("{call}: {judge} answers {wanted}, the port {given}, on \"{front}\"{more}");
 }
 
 /// Counts of one list.
@@ -75,8 +85,9 @@ fn list(path: &str) -> Result<Counts, String> {
         // a list that has not been answered has a question mark there
         if line.answer != wanted && line.answer != "?" {
             println!(
-                "{path}:{k}: {call}: the list says {}, the Rust {wanted}",
-                line.answer
+                "{path}:{k}: {call}: the list says {}, {} {wanted}",
+                line.answer,
+                judge(call)
             );
         }
         let place = places::fault(call, &wanted, &line.text);
@@ -90,12 +101,14 @@ fn list(path: &str) -> Result<Counts, String> {
     Ok(counts)
 }
 
-/// A line whose answer is `number@place`, written by hand: whether the number is not the Rust's, or the port's answer another.
+/// A line whose answer is `number@place`, written by hand: whether the number is not the Rust's, or the answer of the port or of the
+/// reference, where it has one, is another.
 fn placed(path: &str, k: usize, plain: &str, line: &lists::Line) -> bool {
     let number = answer(plain, &line.text);
     let given = port::answer(&line.call, &line.text);
     let right = line.answer.split('@').next() == number.as_deref()
-        && given.as_deref() == Some(&line.answer);
+        && given.as_deref() == Some(&line.answer)
+        && answer(&line.call, &line.text).is_none_or(|a| a == line.answer);
     if !right {
         println!(
             "{path}:{k}: {}: the list says {}, the Rust {number:?}, the port {given:?}",

@@ -9,7 +9,8 @@ const PIECES: &[&[u8]] = &[
     b"#FIXED", b"%p;", b"%", b"&#65;", b"&#x41;", b"&#", b"&#x", b"&#0;", b"&#1114112;", b"&", b"(", b")",
     b")*", b"|", b",", b"?", b"*", b"+", b"[", b"]", b"<", b">", b"'", b"\"", b"=", b";", b":", b"-", b".",
     b"#", b"!", b"^", b" ", b"\t", b"\r", b"\n", b"x", b"1", b"xml", b"XML", b"version", b"encoding",
-    b"standalone", b"yes", b"1.0",
+    b"standalone", b"yes", b"1.0", b"<!DOCTYPE", b"<!DOCTYPE a>", b"<?xml ", b"<?xml version='1.0'?>", b"encoding='UTF-16'",
+    b"encoding='ISO-8859-1'", b"<a", b"</", b"<!", b"\r\n", b"\xef\xbb\xbf",
     // é, a combining mark, a middle dot, 日, U+0220, U+FFFF, U+10000; then bytes that are not UTF-8, and illegal characters
     b"\xc3\xa9", b"\xcc\x80", b"\xc2\xb7", b"\xe6\x97\xa5", b"\xc8\xa0", b"\xef\xbf\xbf", b"\xf0\x90\x80\x80",
     b"\xff", b"\x80", b"\xc3", b"\xed\xa0\x80", b"\x00", b"\x01", b"\x1f",

@@ -9,6 +9,7 @@ use oracle::{Gate, Record, answer, record_text};
 const CALLS: &[&str] = &[
     "check_doctype", "check_doctype", "check_doctype", "check_doctype", "scan", "scan", "check_declaration",
     "check_chars", "check_text", "check_attr_value", "check_char_refs", "check_name", "is_ncname", "utf8",
+    "check_document", "check_document", "check_document", "check_document", "check_document",
 ];
 const GATE_CALLS: &[&str] = &[
     "decl", "decl", "doctype0", "doctype0", "doctype0", "doctype1", "doctype2",
@@ -17,7 +18,7 @@ const GATE_CALLS: &[&str] = &[
 /// The lists' texts by what they were written for.
 #[derive(Default)]
 pub struct Samples {
-    kinds: [Vec<Vec<u8>>; 4],
+    kinds: [Vec<Vec<u8>>; 5],
 }
 
 impl Samples {
@@ -31,7 +32,8 @@ fn kind(call: &str) -> usize {
         "check_doctype" | "scan" | "doctype0" | "doctype1" | "doctype2" => 0,
         "check_declaration" | "decl" => 1,
         "check_name" | "is_ncname" | "name_part" => 2,
-        _ => 3,
+        "check_document" => 3,
+        _ => 4,
     }
 }
 
@@ -42,6 +44,8 @@ pub fn run(seed: u64, count: u64, samples: &Samples) -> (u64, u64) {
     while made < count {
         let (calls, differences) = if random.once_in(5) {
             gate(&mut random, samples)
+        } else if random.once_in(400) {
+            cuts(&mut random, samples)
         } else {
             (1, single(&mut random, samples))
         };
@@ -55,7 +59,10 @@ pub fn run(seed: u64, count: u64, samples: &Samples) -> (u64, u64) {
 fn text(random: &mut Random, call: &str, samples: &Samples) -> Vec<u8> {
     let alike = &samples.kinds[kind(call)];
     let whole = if alike.is_empty() || random.once_in(2) {
-        Generator { random }.text(call).into_bytes()
+        match call {
+            "check_document" => Generator { random }.document(),
+            _ => Generator { random }.text(call).into_bytes(),
+        }
     } else {
         alike[random.below(alike.len())].clone()
     };
@@ -73,17 +80,46 @@ fn text(random: &mut Random, call: &str, samples: &Samples) -> Vec<u8> {
 
 fn single(random: &mut Random, samples: &Samples) -> u64 {
     let call = random.one(CALLS);
-    let text = text(random, call, samples);
+    let mut text = text(random, call, samples);
+    if call == "check_document" && random.once_in(4) {
+        text.truncate(random.below(text.len() + 1));
+    }
+    differs(call, &text)
+}
+
+/// A document whole and cut at every byte.
+fn cuts(random: &mut Random, samples: &Samples) -> (u64, u64) {
+    const CALL: &str = "check_document";
+    let mut text = text(random, CALL, samples);
+    text.truncate(500);
+    let whole = answer(CALL, &text).unwrap();
+    let mut differences = 0;
+    for end in 0..=text.len() {
+        let begun = answer(CALL, &text[..end]).unwrap();
+        assert!(stands(&begun, &whole, end), "{begun} but {whole}: {text:?}");
+        differences += differs(CALL, &text[..end]);
+    }
+    (text.len() as u64 + 1, differences)
+}
+
+/// What the reference refuses of a beginning it has to refuse of the whole, but for a refusal at the beginning's end, where a character
+/// may be cut, and for a first byte 0, which may begin UTF-16 or UTF-32.
+fn stands(begun: &str, whole: &str, end: usize) -> bool {
+    let place = begun.split(['@', ':']).nth(1).unwrap();
+    begun == whole || place.parse::<usize>().unwrap() + 3 >= end || begun.starts_with("18@0:")
+}
+
+fn differs(call: &str, text: &[u8]) -> u64 {
     let (wanted, given) = (
-        answer(call, &text).unwrap(),
-        port::answer(call, &text).unwrap(),
+        answer(call, text).unwrap(),
+        port::answer(call, text).unwrap(),
     );
     if wanted != given {
-        difference(call, &wanted, &given, &text, usize::MAX);
+        difference(call, &wanted, &given, text, usize::MAX);
         return 1;
     }
-    if let Some(given) = places::fault(call, &wanted, &text) {
-        difference(call, &wanted, &given, &text, usize::MAX);
+    if let Some(given) = places::fault(call, &wanted, text) {
+        difference(call, &wanted, &given, text, usize::MAX);
         return 1;
     }
     0

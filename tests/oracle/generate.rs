@@ -1,4 +1,4 @@
-//! Texts put together from the grammar, with a slip here and there.
+//! Texts put together from the grammar, with a slip here and there. (Documents are put together in prologs.rs.)
 use crate::random::Random;
 
 const NAMES: &[&str] = &[
@@ -42,7 +42,7 @@ impl Generator<'_> {
         }
     }
 
-    fn one(&mut self, of: &[&'static str]) -> &'static str {
+    pub fn one(&mut self, of: &[&'static str]) -> &'static str {
         self.random.one(of)
     }
 
@@ -55,7 +55,7 @@ impl Generator<'_> {
         self.one(from).to_string()
     }
 
-    fn maybe_space(&mut self) -> &'static str {
+    pub fn maybe_space(&mut self) -> &'static str {
         if self.random.once_in(2) {
             ""
         } else {
@@ -71,7 +71,7 @@ impl Generator<'_> {
         }
     }
 
-    fn quoted(&mut self, value: &str) -> String {
+    pub fn quoted(&mut self, value: &str) -> String {
         let mark = self.one(&["\"", "'"]);
         let end = if self.random.once_in(60) { "" } else { mark };
         format!("{mark}{value}{end}")
@@ -248,7 +248,7 @@ impl Generator<'_> {
         )
     }
 
-    fn instruction(&mut self) -> String {
+    pub fn instruction(&mut self) -> String {
         let target = if self.random.once_in(4) {
             self.one(&["xml", "XmL", "xml2", "xml:a"]).to_string()
         } else {
@@ -261,7 +261,7 @@ impl Generator<'_> {
         )
     }
 
-    fn comment(&mut self) -> String {
+    pub fn comment(&mut self) -> String {
         format!(
             "<!--{}-->",
             self.one(&[

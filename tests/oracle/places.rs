@@ -1,5 +1,6 @@
 //! The place of a refusal. The Rust tells none, so what is asked is that the number is the Rust's, and that what stands at the place is
-//! what the number speaks of: by the words of the table alone, without reading the text as the port does.
+//! what the number speaks of: by the words of the table alone, without reading the text as the port does. Of a DOCTYPE and of an XML
+//! declaration it has to be the very place at which the reference's readers stop.
 use crate::port;
 
 /// What is wrong with the form of a check that tells a place; None where all is well, or the call has no such form.
@@ -11,7 +12,12 @@ pub fn fault(call: &str, wanted: &str, text: &[u8]) -> Option<String> {
     if place > text.len() || !fits(number, text, place) {
         return Some(format!("{number} at {place}"));
     }
-    None
+    match oracle::stop(call, text) {
+        Some((_, wanted)) if wanted != place => Some(format!(
+            "{number} at {place}, where the reference stops at {wanted}"
+        )),
+        _ => None,
+    }
 }
 
 /// Whether a refusal with this number can be met at this place.

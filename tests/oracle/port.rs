@@ -10,6 +10,20 @@ struct RawGate {
     refused: u16,
 }
 
+/// `moxkeldi_verdict`.
+#[repr(C)]
+#[derive(Clone, Copy)]
+struct RawVerdict {
+    place: usize,
+    line: usize,
+    column: usize,
+    opened: usize,
+    has_doctype: usize,
+    doctype_start: usize,
+    doctype_end: usize,
+    unread: usize,
+}
+
 pub type Check = unsafe extern "C" fn(*const u8, usize) -> u8;
 type CheckAt = unsafe extern "C" fn(*const u8, usize, *mut usize) -> u8;
 
@@ -28,6 +42,7 @@ unsafe extern "C" {
     fn moxkeldi_check_name_at(text: *const u8, len: usize, place: *mut usize) -> u8;
     fn moxkeldi_check_doctype_at(text: *const u8, len: usize, place: *mut usize) -> u8;
     fn moxkeldi_check_declaration_at(text: *const u8, len: usize, place: *mut usize) -> u8;
+    fn moxkeldi_check_document(text: *const u8, len: usize, verdict: *mut RawVerdict) -> u8;
     fn moxkeldi_check_utf8(text: *const u8, len: usize) -> u8;
     fn moxkeldi_is_ncname(text: *const u8, len: usize, yes: *mut u8) -> u8;
     fn moxkeldi_scan(text: *const u8, len: usize, answer: *mut u8, place: *mut usize) -> u8;
@@ -82,6 +97,32 @@ pub fn scan(text: &[u8], mut answer: u8, mut place: usize) -> (u8, u8, usize) {
     (number, answer, place)
 }
 
+/// The verdict on a document, as the lists write it. What the call leaves as it was is seen as a difference.
+pub fn document(text: &[u8]) -> String {
+    const BEFORE: usize = usize::MAX;
+    let mut verdict = RawVerdict {
+        place: BEFORE,
+        line: BEFORE,
+        column: BEFORE,
+        opened: BEFORE,
+        has_doctype: BEFORE,
+        doctype_start: BEFORE,
+        doctype_end: BEFORE,
+        unread: BEFORE,
+    };
+    let number = unsafe { moxkeldi_check_document(text.as_ptr(), text.len(), &mut verdict) };
+    let v = verdict;
+    let doctype = match (v.has_doctype, v.doctype_start, v.doctype_end) {
+        (0, 0, 0) => "-".to_string(),
+        (1, start, end) => format!("{start}-{end}"),
+        other => format!("{other:?}"),
+    };
+    format!(
+        "{number}@{}:{}:{}/{}/{doctype}/{}",
+        v.place, v.line, v.column, v.opened, v.unread
+    )
+}
+
 /// The answer of a call without a record; None where there is no such call.
 pub fn answer(call: &str, text: &[u8]) -> Option<String> {
     if let Some((_, check)) = CHECKS.iter().find(|(name, _)| *name == call) {
@@ -91,7 +132,8 @@ pub fn answer(call: &str, text: &[u8]) -> Option<String> {
         return Some(format!("{number}@{place}"));
     }
     Some(match call {
-        "utf8" => match check_utf8(text) {
+        "check_document" => document(text),
+        "utf8" => match is_utf8(text) {
             0 => "0y".to_string(),
             number => format!("{number}n"),
         },
