@@ -133,7 +133,7 @@ pub fn answer(call: &str, text: &[u8]) -> Option<String> {
     }
     Some(match call {
         "check_document" => document(text),
-        "utf8" => match is_utf8(text) {
+        "utf8" => match check_utf8(text) {
             0 => "0y".to_string(),
             number => format!("{number}n"),
         },

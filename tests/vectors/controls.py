@@ -5,12 +5,14 @@
     python3 tests/vectors/controls.py --report   what the program has to say of them
 
 A program that compared an answer with itself would find no line wrong: these show that it finds each. There is one for every call and for
-every part of an answer (a number, yes or no, a letter, a length, a place, each field of the record), one with a call that is not known, and
-malformed ones. The right answers are written by hand. What stands here is left out by tests/compare, which compares with the Rust.
+every part of an answer (a number, yes or no, a letter, a length, a place, each part of a verdict, each field of the record), one with a call
+that is not known, and malformed ones. The right answers are written by hand. What stands here is left out by tests/compare, which compares
+with the Rust.
 """
 import sys
 
 DEEP = "a[<!ELEMENT b (c,d"
+DOCUMENT = "\n<!DOCTYPE a[%p;<!ELEMENT>]> <a"
 
 # call, wrong answer, right answer, text
 CONTROLS = [
@@ -47,6 +49,17 @@ CONTROLS = [
     ("check_doctype_at", f"13@{len(DEEP) - 1}", f"13@{len(DEEP)}", DEEP + "|e)>]"),
     ("check_doctype_at", f"8@{len(DEEP)}", f"13@{len(DEEP)}", DEEP + "|e)>]"),
     ("check_declaration_at", "17@0", "17@13", "xml version='1.'"),
+    # the verdict on a document: the number, and each of its parts
+    ("check_document", "8@29:2:29/29/10-27/1", "0@29:2:29/29/10-27/1", DOCUMENT),
+    ("check_document", "0@28:2:29/29/10-27/1", "0@29:2:29/29/10-27/1", DOCUMENT),
+    ("check_document", "0@29:1:29/29/10-27/1", "0@29:2:29/29/10-27/1", DOCUMENT),
+    ("check_document", "0@29:2:30/29/10-27/1", "0@29:2:29/29/10-27/1", DOCUMENT),
+    ("check_document", "0@29:2:29/1/10-27/1", "0@29:2:29/29/10-27/1", DOCUMENT),
+    ("check_document", "0@29:2:29/29/1-27/1", "0@29:2:29/29/10-27/1", DOCUMENT),
+    ("check_document", "0@29:2:29/29/10-28/1", "0@29:2:29/29/10-27/1", DOCUMENT),
+    ("check_document", "0@29:2:29/29/-/1", "0@29:2:29/29/10-27/1", DOCUMENT),
+    ("check_document", "0@29:2:29/29/10-27/0", "0@29:2:29/29/10-27/1", DOCUMENT),
+    ("check_document", "7@4:1:5/4/-/0", "7@4:1:5/0/-/0", "<!--"),
     # the gate: the number or "open", and each field of the record
     ("gate_set", "x", "-/0/0/0/0", ""),
     ("decl", "17/1/0/0/0", "0/1/0/0/0", "xml version='1.0'"),

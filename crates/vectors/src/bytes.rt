@@ -2,7 +2,7 @@
 // left out.
 
 // Room for the name of a call or for an answer: longer than any of them.
-pub type Word = [u8; 32];
+pub type Word = [u8; 64];
 
 // The first `n` bytes of `s`, or all where it has fewer.
 pub fn front(s: &[u8], n: usize) -> &[u8] {

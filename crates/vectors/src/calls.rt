@@ -9,6 +9,9 @@ use scan::Scanned;
 // `character_number` where it answers by a number alone, in places.rt where it tells a place, or in
 // cursors.rt where it reads any bytes.
 pub fn reply(word: &[u8], text: &[u8]) -> Reply {
+    if bytes::same(word, b"check_document") {
+        return Reply::Told(document::check_document(text, true));
+    }
     if bytes::same(word, b"utf8") {
         let verdict = source::is_utf8(text);
         return Reply::Verdict(verdict.number, verdict.yes);

@@ -1,6 +1,7 @@
 // What a call answers, and how an answer is written in a vector. A new form of answer is one more
 // variant here and one more arm of `spell`.
 use crate::bytes;
+use crate::documents;
 
 pub enum Reply {
     // the call is not known
@@ -17,6 +18,8 @@ pub enum Reply {
     Measure(u8, usize),
     // that the subset is open
     Open,
+    // what is told of a document
+    Told(document::Verdict),
 }
 
 // Writes the answer at the start of `out`, and answers how many bytes it takes: none for a call that
@@ -30,6 +33,7 @@ pub fn spell(reply: Reply, out: &mut [u8]) -> usize {
         Reply::Word(letter) => bytes::put(out, 0, letter),
         Reply::Measure(letter, size) => measure(letter, size, out),
         Reply::Open => bytes::append(out, 0, b"open"),
+        Reply::Told(found) => documents::spell(found, out),
     }
 }
 

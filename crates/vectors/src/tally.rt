@@ -81,7 +81,7 @@ fn with_gate(tally: Tally, gate: Gate) -> Tally {
 // Compares a call's answer with the one wanted. No answer is empty, so an empty one says that the call
 // is not known.
 fn compare(line: u64, word: &[u8], wanted: &[u8], step: Stepped) -> Outcome {
-    let mut space = [0u8; 32];
+    let mut space = [0u8; 64];
     let out: &mut [u8] = &mut space;
     let n = gates::spell(step, out);
     if n == 0 {

@@ -5,4 +5,4 @@ use Rattle.vectors.proofs.room.Statement.{statement}
 use Rattle.vectors.proofs.room.Tie as tie
 
 pub room-spec : {M : Type 1} → statement M
-room-spec = tie.close (tie.spec (λ c. length-replicate {0} {A = ℕ} 1048577 0))  -- returns
+room-spec = tie.close (tie.spec (λ c. length-replicate {0} {A = ℕ} 1048600 0))  -- returns
