@@ -395,7 +395,7 @@ def documents(seed, count):
 
 # DOCTYPEs around the longest, and groups around the most.
 def limits():
-    front, back = b"<!DOCTYPE a[".hex(), b"]><a".hex()
+    front, back = b"<!DOCTYPE a[".hex(), b"]><a/>".hex()
     for size in (LIMIT - 1, LIMIT, LIMIT + 1):
         line("?", f"{front}+20*{size - 4}+{back}")
         line("?", f"{front}+{b'<!--'.hex()}+2d61*{(size - 11) // 2}+{b'-->'.hex()}+20*{(size - 11) % 2}+{back}")
