@@ -12,8 +12,6 @@ pub fn doctype(r: &mut Reader<'_>) -> Read<usize> {
     if r.sees("SYSTEM") || r.sees("PUBLIC") {
         decl::external_id(r)?;
         r.spaces();
-    } else if r.cut_in(&["SYSTEM", "PUBLIC"]) {
-        return Err(r.ends());
     }
     if !r.eat("[") {
         return Ok(0);
@@ -29,7 +27,7 @@ fn subset(r: &mut Reader<'_>) -> Read<usize> {
     loop {
         r.spaces();
         match r.next() {
-            None if matches!(r.within, Within::Part) => return Err(Stop::At(7, r.at)),
+            None => return Err(r.refuse(7)),
             Some(']') => {
                 r.eat("]");
                 return Ok(unread);
@@ -79,10 +77,6 @@ fn markup(r: &mut Reader<'_>, referred: bool) -> Read<bool> {
             }
             return parse(&mut r.part(body)).map(|()| false);
         }
-    }
-    let words = KEYWORDS.map(|(keyword, _)| keyword);
-    if r.cut_in(&words) || r.cut_in(&["<!--"]) {
-        return Err(r.ends());
     }
     Err(r.refuse(8))
 }

@@ -41,9 +41,12 @@ pub fn check_document(bytes: &[u8]) -> Verdict {
     }
     let start = mark(bytes);
     let mut text = readable(bytes);
-    let one_byte = encoding_named(text, start).is_some_and(is_one_byte);
-    if one_byte {
-        text = ascii(text, start);
+    // "A document that names an encoding other than [..] is refused with 2 at that name; but where [..] it is read on"
+    let coding = encoding(text, start).map_or(Coding::Utf8, coding);
+    match coding {
+        Coding::Utf8 => {}
+        Coding::OneByte => text = ascii(text, start),
+        Coding::Other(place) => return refusal(bytes, 2, place, place),
     }
     match prolog(text, start) {
         Ok(found) => Verdict {
@@ -54,7 +57,7 @@ pub fn check_document(bytes: &[u8]) -> Verdict {
         Err(Stop::At(number, place)) => refusal(bytes, number, place, place),
         Err(Stop::Ends(opened)) => {
             let end = text.len();
-            refusal(bytes, at_end(&bytes[end..], one_byte), end, opened)
+            refusal(bytes, at_end(&bytes[end..], &coding), end, opened)
         }
     }
 }
@@ -110,12 +113,12 @@ fn ascii(text: &str, start: usize) -> &str {
 }
 
 /// "2 or 18 for what is no character, 7 for the end of the text"
-fn at_end(rest: &[u8], one_byte: bool) -> u8 {
+fn at_end(rest: &[u8], coding: &Coding) -> u8 {
     let noncharacter = rest.starts_with(b"\xef\xbf\xbe") || rest.starts_with(b"\xef\xbf\xbf");
     match rest.first() {
         None => 7,
         Some(0..128) => 18,
-        Some(_) if noncharacter && !one_byte => 18,
+        Some(_) if noncharacter && matches!(coding, Coding::Utf8) => 18,
         Some(_) => 2,
     }
 }
@@ -179,15 +182,17 @@ fn prolog(text: &str, start: usize) -> Read<Prolog> {
 
 const DOCTYPE: &str = "<!DOCTYPE";
 
-/// "`<` and a Name, as production 40 begins". In its place another item of the prolog may have begun that the text breaks off.
+/// "`<` and a Name, as production 40 begins"
 fn root(r: &Reader<'_>) -> Read {
-    if r.cut_in(&[DOCTYPE, "<!--"]) {
-        return Err(r.ends());
+    let rest = r.rest();
+    // "The same holds of a text that ends before its root." What begins with `<!` may become a comment or a DOCTYPE, as long as nothing ends it.
+    if rest.is_empty() || rest == "<" || rest.starts_with("<!") && !rest.contains('>') {
+        return Err(Stop::Ends(r.at));
     }
-    if !r.sees("<") || r.sees("<!") {
+    if !rest.starts_with('<') || rest.starts_with("<!") {
         return Err(Stop::At(8, r.at));
     }
-    if !r.rest()[1..].starts_with(is_name_start_char) {
+    if !rest[1..].starts_with(is_name_start_char) {
         return Err(Stop::At(4, r.at + 1));
     }
     Ok(())
@@ -214,15 +219,15 @@ fn whole_doctype(r: &mut Reader<'_>) -> Read<((usize, usize), usize)> {
     r.eat(DOCTYPE);
     let (start, rest) = (r.at, r.rest());
     let read = doctype(r);
+    if let Err(Stop::At(number, _)) = read {
+        assert_eq!(number, doctype_number(rest), "{rest:?}");
+    }
     let end = r.at;
     let read = match read {
         Ok(_) if !r.eat(">") => Err(r.refuse(9)),
         read => read,
     };
-    if let Err(Stop::At(number, _)) = read {
-        assert_eq!(number, doctype_number(rest), "{rest:?}");
-    }
-    let unread = read?;
+    let unread = read.map_err(|stop| unless_closed(stop, r, sign))?;
     assert_eq!(first_end(rest, end - start), Some(end - start), "{rest:?}");
     r.within = Within::Prolog;
     // "A DOCTYPE's text has at most 1,048,576 bytes."
@@ -232,6 +237,15 @@ fn whole_doctype(r: &mut Reader<'_>) -> Read<((usize, usize), usize)> {
     Ok(((start, end), unread))
 }
 
+/// "What does not end in it, be it [..] a declaration [..], is refused for that, whatever else is wrong in it": a DOCTYPE does not end where
+/// no `>` is left behind what is wrong in it.
+fn unless_closed(stop: Stop, r: &Reader<'_>, sign: usize) -> Stop {
+    match stop {
+        Stop::At(_, place) if !r.text[place..].contains('>') => Stop::Ends(sign),
+        stop => stop,
+    }
+}
+
 /// The first `>` before which the unchanged Rust accepts everything. In a long text only the one at `likely` is tried.
 fn first_end(rest: &str, likely: usize) -> Option<usize> {
     const LONG: usize = 2000;
@@ -239,38 +253,29 @@ fn first_end(rest: &str, likely: usize) -> Option<usize> {
     ends.find(|k| (*k == likely || likely < LONG) && doctype_number(&rest[..*k]) == 0)
 }
 
-/// Whether production 23 begins here: `<?xml` and white space.
+/// Whether production 23 begins here: `<?xml`, and then neither goes the target on nor does the text end.
 fn is_declaration(text: &str) -> bool {
     text.strip_prefix("<?xml")
-        .is_some_and(|rest| rest.starts_with(is_space))
+        .is_some_and(|rest| rest.starts_with(|c| is_space(c) || c == '?'))
 }
 
-/// Production 23, and what is said of the encoding that it names.
-fn declaration(r: &mut Reader<'_>) -> Read {
+/// Production 23. The answer is the name of the encoding, if there is one.
+fn declaration<'a>(r: &mut Reader<'a>) -> Read<Option<Piece<'a>>> {
     // "What does not end [..] is refused for that, whatever else is wrong in it"
     let piece = r.enclosed("<?", "?>")?;
-    let mut d = r.part(piece);
-    let read = encoding(&mut d).and_then(|name| {
-        if let Some(name) = name {
-            encoding_read(name)?;
-        }
-        standalone(&mut d)
-    });
+    let read = declared(&mut r.part(piece));
     let number = match read {
-        Ok(()) => 0,
+        Ok(_) => 0,
         Err(Stop::At(number, _)) => number,
         Err(Stop::Ends(_)) => unreachable!("a part is at hand as a whole"),
     };
-    // the Rust has no 2
-    if number != 2 {
-        let text = piece.text;
-        assert_eq!(number, of_result(check_declaration(text)), "{text:?}");
-    }
+    let text = piece.text;
+    assert_eq!(number, of_result(check_declaration(text)), "{text:?}");
     read
 }
 
-/// Production 23 as far as its encoding, which is the answer.
-fn encoding<'a>(d: &mut Reader<'a>) -> Read<Option<Piece<'a>>> {
+/// What stands between `<?` and `?>`.
+fn declared<'a>(d: &mut Reader<'a>) -> Read<Option<Piece<'a>>> {
     if !d.eat("xml") {
         return Err(d.refuse(8));
     }
@@ -284,15 +289,17 @@ fn encoding<'a>(d: &mut Reader<'a>) -> Read<Option<Piece<'a>>> {
     if digits.is_empty() || !digits.bytes().all(|b| b.is_ascii_digit()) {
         return Err(Stop::At(17, version.start));
     }
-    let Some(name) = attribute(d, "encoding")? else {
-        return Ok(None);
-    };
-    // production 81
-    let fits = |c: char| c.is_ascii_alphanumeric() || matches!(c, '.' | '_' | '-');
-    if !name.text.starts_with(|c: char| c.is_ascii_alphabetic()) || !name.text.chars().all(fits) {
-        return Err(Stop::At(17, name.start));
+    let name = attribute(d, "encoding")?;
+    if let Some(name) = name {
+        // production 81
+        let fits = |c: char| c.is_ascii_alphanumeric() || matches!(c, '.' | '_' | '-');
+        let letter = |c: char| c.is_ascii_alphabetic();
+        if !name.text.starts_with(letter) || !name.text.chars().all(fits) {
+            return Err(Stop::At(17, name.start));
+        }
     }
-    Ok(Some(name))
+    standalone(d)?;
+    Ok(name)
 }
 
 /// Production 32, if it is there, and the end.
@@ -334,8 +341,8 @@ fn value<'a>(d: &mut Reader<'a>) -> Read<Piece<'a>> {
     d.literal()
 }
 
-/// The encoding that a declaration names, if all before it is in order and the declaration ends.
-fn encoding_named(text: &str, start: usize) -> Option<&str> {
+/// The encoding that a document names. A declaration that is refused names none.
+fn encoding(text: &str, start: usize) -> Option<Piece<'_>> {
     let mut r = Reader {
         text,
         at: start,
@@ -344,18 +351,28 @@ fn encoding_named(text: &str, start: usize) -> Option<&str> {
     if !is_declaration(r.rest()) {
         return None;
     }
-    let piece = r.enclosed("<?", "?>").ok()?;
-    let name = encoding(&mut r.part(piece)).ok()??;
-    Some(name.text)
+    declaration(&mut r).ok()?
 }
 
-/// "an encoding other than UTF-8 or US-ASCII, in any case of letters, is refused with 2 at that name; but [..] it is read on"
-fn encoding_read(name: Piece<'_>) -> Read {
+/// What a document is read in.
+enum Coding {
+    Utf8,
+    /// one byte for each character, of which only ASCII's are read
+    OneByte,
+    /// none that is read; where its name stands
+    Other(usize),
+}
+
+/// "other than UTF-8 or US-ASCII, in any case of letters"
+fn coding(name: Piece<'_>) -> Coding {
     let known = ["UTF-8", "US-ASCII"];
-    if known.iter().any(|k| k.eq_ignore_ascii_case(name.text)) || is_one_byte(name.text) {
-        return Ok(());
+    if known.iter().any(|k| k.eq_ignore_ascii_case(name.text)) {
+        return Coding::Utf8;
     }
-    Err(Stop::At(2, name.start))
+    if is_one_byte(name.text) {
+        return Coding::OneByte;
+    }
+    Coding::Other(name.start)
 }
 
 /// "one of ISO-8859-1 to ISO-8859-16 or windows-1250 to windows-1258"
@@ -373,8 +390,8 @@ pub fn declaration_stop(text: &str) -> (u8, usize) {
         at: 0,
         within: Within::Part,
     };
-    match encoding(&mut d).and_then(|_| standalone(&mut d)) {
-        Ok(()) => (0, d.at),
+    match declared(&mut d) {
+        Ok(_) => (0, d.at),
         Err(Stop::At(number, place)) => (number, place),
         Err(Stop::Ends(_)) => unreachable!("a part is at hand as a whole"),
     }

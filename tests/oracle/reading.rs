@@ -12,14 +12,14 @@ pub enum Stop {
 
 pub type Read<T = ()> = Result<T, Stop>;
 
-/// What the end of the text means where something is still to come.
+/// Where the reader is, for what does not end.
 #[derive(Clone, Copy)]
 pub enum Within {
-    /// it is the end of a part that is at hand as a whole: what is missing is refused there
+    /// in a part that is at hand as a whole
     Part,
-    /// the document ends before its root
+    /// in the prolog of a document
     Prolog,
-    /// the document ends within the DOCTYPE whose `<` stands at a place
+    /// in its DOCTYPE, whose `<` stands at a place
     Doctype(usize),
 }
 
@@ -76,25 +76,9 @@ impl<'a> Reader<'a> {
         there
     }
 
-    /// Whether the document ends in the front part of one of these words: the words are then neither there nor missing.
-    pub fn cut_in(&self, words: &[&str]) -> bool {
-        !matches!(self.within, Within::Part) && words.iter().any(|w| w.starts_with(self.rest()))
-    }
-
-    /// The refusal here, where something is missing or wrong. At the end of a document the end is what is wrong.
+    /// The refusal here, where something is missing or wrong.
     pub fn refuse(&self, number: u8) -> Stop {
-        if self.at_end() && !matches!(self.within, Within::Part) {
-            return self.ends();
-        }
         Stop::At(number, self.at)
-    }
-
-    /// The document ends where nothing is open but the prolog, or the head or subset of the DOCTYPE.
-    pub fn ends(&self) -> Stop {
-        match self.within {
-            Within::Doctype(start) => Stop::Ends(start),
-            Within::Part | Within::Prolog => Stop::Ends(self.text.len()),
-        }
     }
 
     /// What the sign opened that begins at `sign`, and behind which the reader stands, does not end.
