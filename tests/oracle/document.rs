@@ -1,6 +1,11 @@
 //! The reference for `check_document`, for which there is no Rust: written from the words of docs/SCOPE.md ("Reading", "A whole document", "The
 //! numbers") and of the verdict, and from no code. Comments in quotes are SCOPE's sentences. Where the Rust has a function, the number has to
-//! be the Rust's.
+//! be the Rust's. Where the words leave something open, it was settled as the library's order of reading has it:
+//! - a DOCTYPE, and what else begins with `<!`, does not end where no `>` is left behind what is wrong in it: `<!DOCTYPE 1`, `<!a`;
+//! - where the text ends directly behind the root's `<`, that `<` is what was opened: `<`;
+//! - an XML declaration begins with `<?xml` and white space or `?`: `<?xml?>`;
+//! - an XML declaration that is refused names no encoding: `<?xml version='1.0' encoding='x' y?>`;
+//! - a DOCTYPE that is too long is refused where it begins, and only where nothing in it is.
 use crate::answers::{LIMIT, doctype_number};
 use crate::doctypes::doctype;
 use crate::numbers::of_result;
