@@ -409,6 +409,29 @@ def documents(seed, count):
         line("?", text if k % 3 == 0 else made.damaged(text))
 
 
+# Prologs around 65,536 bytes: a check that tries a front part first goes over to the whole somewhere.
+def fronts():
+    def filled(front, sign, size, rest):
+        """`front`, so many signs that `rest` begins at `size`, and `rest`."""
+        line("?", f"{front.hex()}+{sign.hex()}*{size - len(front)}+{rest.hex()}")
+
+    declared = b"<?xml version='1.0' encoding='%s'?><!--"
+    for size in range(65531, 65540):
+        filled(b"<!--", b"a", size, b"--><\xc3\xa9/>")
+        filled(b"<!--", b"a", size, b"\xe6\x97\xa5--><a/>")
+        filled(b"\xef\xbb\xbf<!--", b"a", size, b"")
+        filled(b"<!DOCTYPE a[", b" ", size, b"<!ELEMENT %p>]><a/>")
+        filled(b"<?xml", b" ", size, b"version='1.0' encoding='UTF-16'?><a/>")
+    for size in range(65535, 65538):
+        filled(b"<!--", b"\n", size, b"\x01--><a/>")
+        filled(b"<!--", b"a", size, b"\xff--><a/>")
+        filled(b"<!--", b"a", size, b"--b--><a/>")
+        filled(b"<!DOCTYPE a[", b"\r", size, b"<!ELEMENT 1 ANY>]><a/>")
+        filled(declared % b"ISO-8859-1", b"a", size, b"\xc3\xa9--><a/>")
+        filled(declared % b"ISO-8859-1", b"a", size, b"--><a/>\xff")
+        filled(declared % b"UTF-16", b"a", size, b"--><a/>")
+
+
 # DOCTYPEs around the longest, and groups around the most.
 def limits():
     front, back = b"<!DOCTYPE a[".hex(), b"]><a/>".hex()
@@ -429,6 +452,7 @@ def main():
     encodings()
     characters()
     documents(20261120, 700)
+    fronts()
     limits()
 
 
