@@ -56,6 +56,9 @@ ACCEPTED = [
     (0, "2:2", "<!DOCTYPE⟦ a SYSTEM '>' [<!--]>--><?b ]>?><!ENTITY e ']>'>]\r⟧>›<a>"),
     (0, "1:20", "<!----><!DOCTYPE⟦ a⟧>›<a>"),
     (0, "1:20", "<!DOCTYPE⟦ a⟧><!---->›<a>"),
+    # & goes unchecked
+    (0, "1:30", "<!DOCTYPE⟦ a[<!ENTITY e '&'>]⟧>›<a>"),
+    (0, "1:41", "<!DOCTYPE⟦ a[<!ATTLIST b c CDATA '&d;'>]⟧>›<a>"),
     # unread declarations
     (0, "1:31", "<!DOCTYPE⟦ a[<!ELEMENT !! %p>]⟧>›<a>", 1),
     (0, "1:28", "<!DOCTYPE⟦ a[%p;<!ELEMENT>]⟧>›<a>", 1),
@@ -173,6 +176,7 @@ ENCODED = [
     (0, "1:39", DECLARED + "UTF-8'?>›<é>"),
     (0, "1:39", DECLARED + "uTf-8'?>›<a>"),
     (0, "1:42", DECLARED + "us-ascii'?>›<é>"),
+    (0, "1:50", DECLARED + "US-ASCII'?><!--é-->›<a>"),
     (0, "1:44", DECLARED + "ISO-8859-1'?>›<a>"),
     (0, "1:45", DECLARED + "iso-8859-16'?>›<a>"),
     (0, "1:46", DECLARED + "Windows-1250'?>›<a>"),

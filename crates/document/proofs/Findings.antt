@@ -2,20 +2,21 @@
 use mathlib.Core.Path.{_≡_, refl, sym, ap, _∙_}
 use mathlib.Core.Bool.{Bool, true, false, true≢false}
 use mathlib.Core.List.{List}
-use Prim.Native.Nat.{ℕ, _-_, _≤_, _<_}
+use Prim.Native.Nat.{ℕ, _-_, _≤_}
 use native.Mathlib.Omega.{arith}
 use borrow.Author.Needs.{needs}
 use lib.ListN.{length, take, drop, take-append-drop}
 use lib.Seq.{length-take-le}
+use Rattle.spec.specs.Basics.{pick}
 use Rattle.spec.specs.Grammar.AppendixB.{appendix-B}
 use Rattle.spec.specs.Grammar.Characters.{xml-char}
 use Rattle.spec.specs.Grammar.Encodings as Rule
-use Rattle.spec.specs.Grammar.Encodings.{Encoding, unnamed, named, class-of, coding-in}
-use Rattle.spec.specs.Grammar.Prolog.{Doctype-text, no-doctype, from-to}
+use Rattle.spec.specs.Grammar.Encodings.{Encoding, unnamed, class-of, coding-in}
+use Rattle.spec.specs.Grammar.Prolog.{no-doctype, from-to}
 use Rattle.spec.specs.Reading.Document.{read-declaration, legal-length, legal-part}
 use Rattle.spec.specs.Reading.Readers.{Result, ok, err}
 use Rattle.spec.specs.Reading.Refusals.{Refusal, number}
-use Rattle.spec.specs.Reading.Verdict.{Verdict, accepted, refused, ended, rootless, number-in, end-refusal, readable, verdict-in, encoding-read, by-coding, verdict}
+use Rattle.spec.specs.Reading.Verdict.{Verdict, accepted, refused, ended, rootless, number-in, end-refusal, verdict-in, find-encoding, unless-refused, encoding-read, by-coding, verdict}
 use Rattle.spec.proofs.Characters.AppendixB.{appendix-B-ascii}
 use Rattle.spec.proofs.Document.Legal.{legal-takes}
 use Rattle.spec.proofs.Document.Right.{accepted-stays}
@@ -31,8 +32,8 @@ use Rattle.encodings.specs.declared.codings.Coding.the-variants.{Utf8, Bytes, F
 use Rattle.encodings.specs.declared.xmldecl.Named.{Named}
 use Rattle.encodings.specs.declared.xmldecl.Named.the-variants.{Unnamed, Name}
 use Rattle.document.specs.Judgements as Judgements
-use Rattle.document.specs.Judgements.{Judgement, accepts as accepts-all, refuses, ends, lacks-root, judged, in-full, told-text}
-use Rattle.document.specs.Findings.{found-text, found, is-accepted}
+use Rattle.document.specs.Judgements.{Judgement, accepts as accepts-all, refuses, ends, lacks-root, judged, in-full}
+use Rattle.document.specs.Findings.{found, is-accepted}
 use Rattle.document.specs.declared.verdict.Judged.{Judged}
 use Rattle.document.specs.declared.verdict.Judged.the-variants as J
 use Rattle.document.specs.declared.finding.Finding.{Finding}
@@ -110,13 +111,20 @@ module _ (c : Coding) (whole : Bool) (w : List ℕ) (e : ℕ) (a : e ≡ legal-l
         go (ends l) g = let z : _≡_ {A = ℕ} 0 1 = cc in absurd (omega arith)
         go lacks-root g = (rw d)
 
+-- of a declaration that is refused none is looked for
+by-answer : (r : Result) (e : Encoding) → pick (accepts r) e unnamed ≡ unless-refused r e
+by-answer (ok k) e = refl
+by-answer (err n k) e = refl
+
 -- In the coding that it names: m is the name that is read, and c what it stands for.
 module _ (whole : Bool) (w : List ℕ) (e : ℕ) (a : e ≡ legal-length (class-of (of Utf8)) w) (t : Bool) (b : t ≡ accepts (read-declaration (take (e - 0) (drop 0 w)))) (m : Named)
-    (d : (v : List ℕ) → take (e - 0) (drop 0 w) ≡ legal-part xml-char v → t ≡ accepts (read-declaration (take (e - 0) (drop 0 w))) → told (take (e - 0) (drop 0 w)) m ≡ encoding-read v)
+    (d : told (take (e - 0) (drop 0 w)) m ≡ pick t (find-encoding (take (e - 0) (drop 0 w))) unnamed)
     (c : Coding) (f : of c ≡ coding-in (told (take (e - 0) (drop 0 w)) m)) where
   read-is : told (take (e - 0) (drop 0 w)) m ≡ encoding-read w
-  unfolding of
-  read-is = d w (front-part e w ∙ ap (λ (n : ℕ). take n w) a) b
+  unfolding of encoding-read
+  read-is =
+      d ∙ ap (λ (z : Bool). pick z (find-encoding (take (e - 0) (drop 0 w))) unnamed) b ∙ by-answer (read-declaration (take (e - 0) (drop 0 w))) (find-encoding (take (e - 0) (drop 0 w)))
+      ∙ ap (λ (x : List ℕ). unless-refused (read-declaration x) (find-encoding x)) (front-part e w ∙ ap (λ (n : ℕ). take n w) a)
 
   code-is : coding-in (encoding-read w) ≡ of c
   code-is = ap coding-in (sym read-is) ∙ sym f

@@ -1,5 +1,5 @@
-// The beginning of a document, as [1] has it: the prolog, and '<' and a name of the root. Each reader is a function of the text and a place,
-// for all bytes and all places, and answers as the reader of the same name in the order of reading.
+// The check of a whole document, as far as [1] has it up to the name of its root: the prolog, and '<' and a name. Each reader is a function of
+// the text and a place, for all bytes and all places, and answers as the reader of the same name in the order of reading.
 mod check;
 mod declaration;
 mod doctype;
@@ -13,14 +13,3 @@ mod verdict;
 pub use check::Verdict;
 pub use check::check_document;
 pub use check::mark_length;
-pub use declaration::read_declaration;
-pub use doctype::read_doctype;
-pub use finding::Finding;
-pub use finding::find;
-pub use misc::read_item;
-pub use misc::read_misc;
-pub use opening::Prolog;
-pub use opening::read_prolog;
-pub use root::read_tag;
-pub use verdict::Judged;
-pub use verdict::judge;

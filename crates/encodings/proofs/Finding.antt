@@ -10,14 +10,15 @@ use mir.Syntax.{w64}
 use mir.Val.{Fits}
 use lib.ListN.{length, getD, take, drop, length-drop, length-take}
 use lib.Seq.{drop-drop, take-all, take-length, take-take, take-nil}
-use Rattle.spec.specs.Grammar.Characters.{space, xml-char}
+use Rattle.spec.specs.Basics.{pick}
+use Rattle.spec.specs.Grammar.Characters.{space}
 use Rattle.spec.specs.Grammar.Encodings.{Encoding, unnamed, named, coding-of, coding-in}
 use Rattle.spec.specs.Grammar.Languages.{ascii}
-use Rattle.spec.specs.Reading.Document.{is-declaration, read-declaration, legal-part}
+use Rattle.spec.specs.Reading.Document.{is-declaration}
 use Rattle.spec.specs.Reading.Dtd.{skip-s, require-s}
 use Rattle.spec.specs.Reading.Readers.{Result, ok, err, Reader, taken, stop-of, starts, run, contains, before}
 use Rattle.spec.specs.Reading.Refusals.{no-space, unexpected}
-use Rattle.spec.specs.Reading.Verdict.{read-version, read-encoding, value-at, encoding-at, encoding-in, find-encoding, unless-refused, encoding-read}
+use Rattle.spec.specs.Reading.Verdict.{read-version, read-encoding, value-at, encoding-at, encoding-in, find-encoding}
 use Rattle.spec.proofs.Agreement.Words.{starts-split}
 use Rattle.spec.proofs.Base.Places.{drop-at, drop-end, drop-take, take-rest, run-within}
 use Rattle.spec.proofs.Base.Tests.{not-true, not-false, or-false-left, or-false-right}
@@ -31,7 +32,6 @@ use Rattle.search.specs.Places.{found}
 use Rattle.search.specs.declared.places.Found.{Found}
 use Rattle.search.specs.declared.places.Found.the-variants.{Here, Nowhere}
 use Rattle.search.proofs.Finding.{was-nowhere, was-here, here-within}
-use Rattle.utf8.specs.Seen.{accepts}
 use Rattle.encodings.specs.Codings.{of}
 use Rattle.encodings.specs.Names.{told, declared-text, Declared, Names}
 use Rattle.encodings.specs.declared.codings.Coding.{Coding}
@@ -180,21 +180,12 @@ module _ (x : List ℕ) (d : Bool) (a : d ≡ is-declaration (drop 0 x)) where
 
 -- of a document whose declaration is accepted or not
 module _ (x : List ℕ) (y : Bool) where
-  pub read-accepted : (r : Named) → y ≡ true → told x r ≡ find-encoding x → (w : List ℕ) → x ≡ legal-part xml-char w → y ≡ accepts (read-declaration x) → told x r ≡ encoding-read w
-  unfolding encoding-read
-  read-accepted r f a w e g = a ∙ (rw (← e) (go (read-declaration x) (sym g ∙ f)))
-    where
-      go : (q : Result) → accepts q ≡ true → find-encoding x ≡ unless-refused q (find-encoding x)
-      go (ok k) h = refl
-      go (err n k) h = absurd (true≢false (sym h))
+  pub read-accepted : (r : Named) → y ≡ true → told x r ≡ find-encoding x → told x r ≡ pick y (find-encoding x) unnamed
+  read-accepted r e a = a ∙ sym (ap (λ (z : Bool). pick z (find-encoding x) unnamed) e)
 
-  pub read-refused : y ≡ false → (w : List ℕ) → x ≡ legal-part xml-char w → y ≡ accepts (read-declaration x) → told x Unnamed ≡ encoding-read w
-  unfolding encoding-read told
-  read-refused f w e g = rw (← e) (go (read-declaration x) (sym g ∙ f))
-    where
-      go : (q : Result) → accepts q ≡ false → unnamed ≡ unless-refused q (find-encoding x)
-      go (ok k) h = absurd (true≢false h)
-      go (err n k) h = refl
+  pub read-refused : y ≡ false → told x Unnamed ≡ pick y (find-encoding x) unnamed
+  unfolding told
+  read-refused e = sym (ap (λ (z : Bool). pick z (find-encoding x) unnamed) e)
 
 -- what the name stands for
 module _ (x : List ℕ) (name : Named) where

@@ -48,7 +48,7 @@ fn cut_number(whole: bool) -> u8
 
 // What stands there, or that the text ends there. Of a text that may go on, the last three bytes are not judged: they may be part of a character.
 // `at` is the legal end, which the caller has already.
-pub fn end_number_at(text: &[u8], at: usize, coding: Coding, whole: bool) -> u8
+fn end_number_at(text: &[u8], at: usize, coding: Coding, whole: bool) -> u8
     ensures { λ r. ⌜ (at ≡ legal-length (class-of (of coding)) (now (text .entry)) → r ≡ number (end-refusal (of coding) whole (now (text .entry)))) ⌝ }
 {
     if text.len() <= at {

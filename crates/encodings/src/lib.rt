@@ -8,7 +8,6 @@ mod xmldecl;
 pub use codings::Coding;
 pub use codings::coding_of;
 pub use ends::end_number;
-pub use ends::end_number_at;
 pub use legal::legal_end;
 pub use wide::Wide;
 pub use wide::looks_like;

@@ -11,15 +11,12 @@ use search::at_keyword;
 use search::find;
 use search::find_byte;
 ghost use mathlib.Core.Path.{_≡_};
-ghost use mathlib.Core.List.{List};
-ghost use Prim.Native.Nat.{ℕ, _+_};
+ghost use Prim.Native.Nat.{_+_};
 ghost use lib.ListN.{drop};
-ghost use Rattle.spec.specs.Grammar.Characters.{xml-char};
-ghost use Rattle.spec.specs.Grammar.Encodings.{coding-in};
-ghost use Rattle.spec.specs.Reading.Document.{read-declaration, legal-part};
+ghost use Rattle.spec.specs.Basics.{pick};
+ghost use Rattle.spec.specs.Grammar.Encodings.{unnamed, coding-in};
 ghost use Rattle.spec.specs.Reading.Readers.{taken};
-ghost use Rattle.spec.specs.Reading.Verdict.{read-version, read-encoding, encoding-at, find-encoding, encoding-read};
-ghost use Rattle.utf8.specs.Seen.{accepts};
+ghost use Rattle.spec.specs.Reading.Verdict.{read-version, read-encoding, encoding-at, find-encoding};
 ghost use Rattle.encodings.specs.Codings.{of};
 ghost use Rattle.encodings.specs.Names.{Declared, Names, told};
 
@@ -97,7 +94,7 @@ pub fn find_encoding(x: &[u8]) -> Named
 // The encoding that a document names. x is the part of it that is read in UTF-8, and the caller says whether its declaration is accepted:
 // of one that is refused none is looked for.
 pub fn encoding_read(x: &[u8], accepted: bool) -> Named
-    ensures { λ r. ⌜ ((w : List ℕ) → now (x .entry) ≡ legal-part xml-char w → accepted ≡ accepts (read-declaration (now (x .entry))) → told (now (x .entry)) r ≡ encoding-read w) ⌝ }
+    ensures { λ r. ⌜ told (now (x .entry)) r ≡ pick accepted (find-encoding (now (x .entry))) unnamed ⌝ }
 {
     if accepted {
         return find_encoding(x);

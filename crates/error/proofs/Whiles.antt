@@ -2,15 +2,13 @@
 use mathlib.Core.Path.{_≡_, refl, sym, ap, _∙_}
 use mathlib.Core.Bool.{Bool, true, false, true≢false}
 use mathlib.Core.List.{List, [], _∷_}
-use Prim.Native.Nat.{ℕ, _+_, _-_, _<_}
+use Prim.Native.Nat.{ℕ, _-_, _<_}
 use native.Mathlib.Nat.{add-zero}
 use native.Mathlib.Omega.{arith}
 use borrow.Author.Needs.{needs}
 use lib.ListN.{length, drop, length-drop}
-use lib.Seq.{drop-drop}
-use Rattle.spec.specs.Reading.Readers.{Result, ok, err, Reader, on-ok, past, _>>_, while}
+use Rattle.spec.specs.Reading.Readers.{Result, ok, err, Reader, _>>_, while}
 use Rattle.spec.proofs.Base.Loops.{Somes, while-turn, while-stop, while-refused}
-use Rattle.spec.proofs.Base.Results.{past-past}
 use Rattle.error.specs.Read.{Said, said, read, placed}
 use Rattle.error.specs.declared.Answer.{Answer}
 use Rattle.error.specs.declared.Answer.the-variants.{At, No}

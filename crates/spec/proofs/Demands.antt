@@ -3,14 +3,14 @@
 use mathlib.Core.Path.{_≡_, refl}
 use mathlib.Core.Logic.{_↔_, _⊎_}
 use mathlib.Core.Bool.{Bool, true, false, _&&_}
-use mathlib.Core.List.{List, _∷_, _++_}
+use mathlib.Core.List.{List, _++_}
 use Prim.Native.Nat.{ℕ, _+_, _-_, _≤_, _<_}
 use lib.Dec.{eqb}
 use lib.ListN.{length, take, drop}
 use Rattle.spec.specs.Grammar.AppendixB.{appendix-B}
 use Rattle.spec.specs.Grammar.Characters.{xml-char, Chars}
 use Rattle.spec.specs.Grammar.Division.{Front, Division}
-use Rattle.spec.specs.Grammar.Doctype.{doctypedecl, Misc}
+use Rattle.spec.specs.Grammar.Doctype.{doctypedecl}
 use Rattle.spec.specs.Grammar.Names.{Dialect, Name, NCName, with-groups, with-beyond, AsciiNames}
 use Rattle.spec.specs.Grammar.Prolog.{from-to, Begins, doctype-of, encoding-of, Document}
 use Rattle.spec.specs.Grammar.References.{Referred, CharData, AttText}
@@ -22,7 +22,6 @@ use Rattle.spec.specs.Reading.Dtd.{check-doctype}
 use Rattle.spec.specs.Reading.Entries.{declarations}
 use Rattle.spec.specs.Reading.Readers.{ok, err, Reader, nothing}
 use Rattle.spec.specs.Reading.Refusals.{Refusal}
-use Rattle.spec.specs.Reading.Places.{at}
 use Rattle.spec.specs.Reading.Scan.{scan}
 use Rattle.spec.specs.Reading.Source.{admit, checked, checked-at}
 use Rattle.spec.specs.Reading.Verdict.{accepted, refused, number-in, place-in, opened-in, doctype-in, encoding-read, mark-length, unmarked, moved, check-document}
@@ -30,7 +29,7 @@ use Rattle.spec.specs.Reading.Wellformed.{illegal-here, check-chars, che
 use Rattle.spec.specs.Rows.{All, Numbered, rows, Met, spots, Judged, cases}
 use Rattle.spec.specs.Unread.{unread-entries, CountsUnread}
 use Rattle.spec.specs.Conditions.{Sided, samples, Limited, sizes, Ascii, alphabets}
-use Rattle.spec.specs.Grammar.Languages.{Lang, ascii, Ch, Star}
+use Rattle.spec.specs.Grammar.Languages.{Lang, Ch, Star}
 use Rattle.spec.proofs.Agreement.Accepts.{promise, tells}
 use Rattle.spec.proofs.Characters.AppendixB.{appendix-B-ascii}
 use Rattle.spec.proofs.Checks.NCNames.{ncname-decides}

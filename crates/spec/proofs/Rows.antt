@@ -7,7 +7,7 @@ use lib.Dec.{eqb, leb}
 use lib.ListN.{length}
 use Rattle.spec.specs.Basics.{limit}
 use Rattle.spec.specs.Grammar.Languages.{ascii}
-use Rattle.spec.specs.Grammar.Characters.{xml-char, Text}
+use Rattle.spec.specs.Grammar.Characters.{xml-char}
 use Rattle.spec.specs.Grammar.Doctype.{doctypedecl}
 use Rattle.spec.specs.Grammar.References.{digit-value, value-on}
 use Rattle.spec.specs.Grammar.AppendixB.{in-table, start-char, part-char, appendix-B}
@@ -98,13 +98,12 @@ use Rattle.spec.specs.Promises.{Checks}
 use Rattle.spec.specs.Rows.{All, Subject, doctype, declaration, rule-of, grammar-of, Row, Numbered, rows, Spot, Met, spots, Case, verdict-on, Judged, cases}
 use Rattle.spec.specs.Conditions.{Sample, Sided, samples}
 use Rattle.spec.proofs.Base.Tables.{each, by-test}
-use Rattle.spec.proofs.Base.Tests.{true→T, alike, alike-same, and-left, and-right, and-both, eqb-true, eqb-yes, leb-true}
+use Rattle.spec.proofs.Base.Tests.{alike, alike-same, and-left, and-right, and-both, eqb-true, eqb-yes, leb-true}
 use Rattle.spec.proofs.Agreement.Accepts.{Agrees, promise}
 use Rattle.spec.proofs.Characters.AppendixB.{appendix-B-ascii}
 use Rattle.spec.proofs.Checks.XmlDecl.{declaration-agrees}
 use Rattle.spec.proofs.Division.Covers.{covers, covered-yes, covered-derived, covered-covers}
 use Rattle.spec.proofs.Dtd.Texts.{doctype-agrees}
-use Rattle.spec.proofs.Characters.Text.{all-ascii, ascii-text}
 use Rattle.spec.proofs.Inside.Checks.{Placed, doctype-placed, declaration-placed}
 
 -- numbers

@@ -1,6 +1,6 @@
 -- The readers of a document's beginning: what is read or refused stands whatever follows, where it is known what begins next. Assumes nothing.
 use mathlib.Core.Logic
-use mathlib.Core.Bool.{Bool, true, false, _&&_, _||_, not, true≢false, and-true, or-true}
+use mathlib.Core.Bool.{Bool, true, false, _&&_, _||_, true≢false, and-true, or-true}
 use mathlib.Core.List.{List, [], _∷_, _++_}
 use mathlib.Core.Logic.{_⊎_}
 use mathlib.Core.Path.{_≡_, refl, sym, _∙_, ap, subst}
@@ -17,7 +17,7 @@ use Rattle.spec.specs.Grammar.Utf8.{scalar, encode}
 use Rattle.spec.specs.Reading.Checks.{check-declaration}
 use Rattle.spec.specs.Reading.Document.{at-most, unless-closed, closing, is-declaration, read-declaration, item-here, read-item, read-misc, read-doctype, read-opening, read-ending, read-prolog, read-other, read-tag, read-beginning}
 use Rattle.spec.specs.Reading.Dtd.{skip-s, check-comment, parse-comment, check-pi, parse-pi}
-use Rattle.spec.specs.Reading.Readers.{Result, ok, err, Reader, on-ok, past, _>>_, nothing, refuse, some-left, starts, choose, on, word, word-of, run, contains, begins, char}
+use Rattle.spec.specs.Reading.Readers.{Result, ok, err, Reader, on-ok, past, _>>_, refuse, some-left, starts, choose, on, word, word-of, run, contains, begins, char}
 use Rattle.spec.specs.Reading.Refusals.{Refusal, number, too-long, unterminated, unexpected, out-of-order, bad-name}
 use Rattle.spec.specs.Reading.Utf8.{point, decode1}
 use Rattle.spec.specs.Reading.Wellformed.{name}

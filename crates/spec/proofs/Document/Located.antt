@@ -14,7 +14,7 @@ use Rattle.spec.specs.Grammar.Languages.{ascii, one-of}
 use Rattle.spec.specs.Grammar.Names.{Dialect}
 use Rattle.spec.specs.Reading.Checks.{is-version-num, check-declaration}
 use Rattle.spec.specs.Reading.Document.{is-declaration, read-declaration, read-prolog, read-beginning, legal-length, legal-part}
-use Rattle.spec.specs.Reading.Readers.{Result, ok, err, stop-of, taken, run, before, _>>_, nothing, starts, choose, word, word-of, contains, up-to}
+use Rattle.spec.specs.Reading.Readers.{Result, ok, err, stop-of, taken, run, before, _>>_, starts, choose, word, word-of, contains, up-to}
 use Rattle.spec.specs.Reading.Refusals.{unterminated, unexpected}
 use Rattle.spec.specs.Reading.Verdict.{
   Verdict,

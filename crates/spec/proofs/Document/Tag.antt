@@ -5,9 +5,9 @@ use mathlib.Core.Path.{_≡_, refl, sym, _∙_, ap, subst}
 use Prim.Native.Nat.{ℕ, _+_}
 use lib.Dec.{T}
 use Rattle.spec.specs.Basics.{pick}
-use Rattle.spec.specs.Grammar.Languages.{Lang, ascii, end}
+use Rattle.spec.specs.Grammar.Languages.{Lang, ascii}
 use Rattle.spec.specs.Grammar.Names.{Dialect, Name, AsciiNames}
-use Rattle.spec.specs.Grammar.Prolog.{prolog, tag}
+use Rattle.spec.specs.Grammar.Prolog.{tag}
 use Rattle.spec.specs.Reading.Document.{item-here, read-other, read-tag}
 use Rattle.spec.specs.Reading.Readers.{ok, Reader, _>>_, refuse, choose, on, starts, word, word-of, some-left, contains}
 use Rattle.spec.specs.Reading.Refusals.{Refusal, unterminated, unexpected, out-of-order}

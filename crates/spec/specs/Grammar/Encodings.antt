@@ -3,7 +3,6 @@
 use mathlib.Core.Bool.{Bool, true, false, _&&_, _||_}
 use mathlib.Core.List.{List, [], _∷_}
 use Prim.Native.Nat.{ℕ, _+_}
-use Prim.Native.String.{String}
 use lib.Dec.{eqb, ltb}
 use lib.ListN.{length}
 use Rattle.spec.specs.Basics.{pick, within}
