@@ -8,8 +8,9 @@ use native.Mathlib.Omega.{arith}
 use borrow.Author.Needs.{needs}
 use lib.Dec.{eqb, ltb}
 use Rattle.spec.specs.Basics.{within}
-use Rattle.spec.specs.Grammar.AppendixB.{in-table, base-chars, ideographs, combining, digits, extenders, start-char, part-char}
+use Rattle.spec.specs.Grammar.AppendixB.{base-chars, ideographs, combining, digits, extenders, start-char, part-char}
 use Rattle.spec.specs.Grammar.Names.{AsciiNames, start-sign, part-sign}
+use Rattle.spec.specs.Grammar.Ranges.{in-table}
 use Rattle.spec.proofs.Characters.AppendixB.{same-at, appendix-B-ascii, tables-ascend}
 use Rattle.spec.proofs.Base.Tests.{decide, leb-true, leb-false, eqb-true, eqb-no, within-high, and-left, and-right, or-cases}
 use Rattle.classes.specs.Classes.{dialect, letter, common-letter, ascii-start, ascii-part}

@@ -7,7 +7,7 @@ use native.Mathlib.Omega.{arith}
 use borrow.Author.Needs.{needs}
 use lib.Dec.{leb, ltb}
 use lib.ListN.{length, getD}
-use Rattle.spec.specs.Grammar.AppendixB.{in-table, ascending}
+use Rattle.spec.specs.Grammar.Ranges.{in-table, ascending}
 use Rattle.spec.proofs.Base.Tests.{leb-yes, leb-true, and-left, and-right, within-low, within-high}
 
 -- the ranges of t ascend, from p on

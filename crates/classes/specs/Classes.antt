@@ -4,7 +4,8 @@ use Prim.Native.Nat.{ℕ}
 use lib.Dec.{eqb}
 use Rattle.spec.specs.Basics.{within}
 use Rattle.spec.specs.Grammar.Names.{Dialect}
-use Rattle.spec.specs.Grammar.AppendixB.{appendix-B, base-chars, ideographs, in-table}
+use Rattle.spec.specs.Grammar.AppendixB.{appendix-B, base-chars, ideographs}
+use Rattle.spec.specs.Grammar.Ranges.{in-table}
 use Rattle.classes.specs.declared.Names.{Names}
 use Rattle.classes.specs.declared.Names.the-variants.{AppendixB}
 

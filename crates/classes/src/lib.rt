@@ -9,7 +9,8 @@ use tables::IDEOGRAPHIC;
 ghost use mathlib.Core.Path.{_≡_};
 ghost use mathlib.Core.Bool.{true};
 ghost use Prim.Native.Nat.{_+_, _≤_};
-ghost use Rattle.spec.specs.Grammar.AppendixB.{base-chars, ideographs, combining, digits, extenders, in-table, ascending, part-char};
+ghost use Rattle.spec.specs.Grammar.AppendixB.{base-chars, ideographs, combining, digits, extenders, part-char};
+ghost use Rattle.spec.specs.Grammar.Ranges.{in-table, ascending};
 ghost use Rattle.classes.specs.Classes.{dialect, ascii-start, ascii-part, common-letter, letter};
 
 // Which name classes a reader uses. Every reader hands it on, so that another edition's classes are one more variant here and one

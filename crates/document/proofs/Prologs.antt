@@ -17,7 +17,7 @@ use Rattle.spec.specs.Grammar.Prolog.{Doctype-text, no-doctype, from-to}
 use Rattle.spec.specs.Reading.Document.{at-most, unless-closed, closing, read-doctype-text, read-doctype, read-opening, read-ending, read-prolog, read-after, find-doctype}
 use Rattle.spec.specs.Reading.Dtd.{doctype-before}
 use Rattle.spec.specs.Reading.Readers.{Result, ok, err, Reader, taken, past, _>>_, nothing, some-left, starts, contains, word, word-of}
-use Rattle.spec.specs.Reading.Refusals.{Refusal, number, too-long, unterminated, trailing, unexpected}
+use Rattle.spec.specs.Reading.Refusals.{Refusal, number, too-long, unterminated, trailing, unexpected, too-deep}
 use Rattle.spec.specs.Reading.Verdict.{moved-text}
 use Rattle.spec.proofs.Base.Results.{err-ok, ok-inj, on-ok-ok, then-ok, unless-refused, else-refused}
 use Rattle.error.specs.Read.{passed, refused, said, read, placed}
@@ -53,14 +53,14 @@ unfolding read-doctype at-most read-doctype-text
 doctype-parts D w k e =
     let (j, f, g) = on-ok-ok _ _ k e in
     let (_, h) = unless-refused too-long 0 (ltb (10 + limit) j) (ok j) k g in
-    let (a, b, c, d, s) = then-ok (word "<!DOCTYPE" unexpected) (closing (doctype-before D (word ">" trailing))) w j f in
+    let (a, b, c, d, s) = then-ok (word "<!DOCTYPE" unexpected) (closing (doctype-before D too-deep (word ">" trailing))) w j f in
     let y : 9 ≡ a = word-ok (ascii "<!DOCTYPE") unexpected w a c in
-    let t = closing-ok (doctype-before D (word ">" trailing)) (drop a w) b d in
-    let (m, o, p, q, u) = then-ok (doctype-before D nothing) (word ">" trailing) (drop a w) b (sym (doctype-then D (word ">" trailing) (drop a w)) ∙ t) in
+    let t = closing-ok (doctype-before D too-deep (word ">" trailing)) (drop a w) b d in
+    let (m, o, p, q, u) = then-ok (doctype-before D too-deep nothing) (word ">" trailing) (drop a w) b (sym (doctype-then D (word ">" trailing) (drop a w)) ∙ t) in
     let v : 1 ≡ o = word-ok (ascii ">") trailing (drop m (drop a w)) o q in
     let x : j ≡ k = ok-inj j k h in
     let z : b ≡ m + 1 = omega arith in
-    (m, ap (λ (i : ℕ). doctype-before D (word ">" trailing) (drop i w)) y ∙ t ∙ ap ok z, omega arith)
+    (m, ap (λ (i : ℕ). doctype-before D too-deep (word ">" trailing) (drop i w)) y ∙ t ∙ ap ok z, omega arith)
 
 pub doctype-some : (D : Dialect) (s : List ℕ) (at i : ℕ) (r : Answer) → r ≡ At i → said r ≡ read (read-doctype D) s at → 1 ≤ i
 doctype-some D s at i r e a =

@@ -5,6 +5,7 @@ use Prim.Native.Nat.{ℕ}
 use native.Mathlib.Nat.{add-zero}
 use lib.ListN.{drop}
 use Rattle.spec.specs.Grammar.Names.{Dialect}
+use Rattle.spec.specs.Reading.Refusals.{too-deep}
 use Rattle.spec.specs.Reading.Dtd.{doctype-before}
 use Rattle.spec.specs.Reading.Readers.{Result, ok, err, Reader, on-ok, past, _>>_, nothing}
 use Rattle.spec.proofs.Base.Sequences.{doctype-then}
@@ -25,6 +26,6 @@ pub read-last : (A : Reader) (s : List ℕ) (at : ℕ) (r : Answer) → said r �
 unfolding read
 read-last A s at r a = a ∙ ap (placed at) (then-nothing A (drop at s))
 
-pub read-ended : (D : Dialect) (end : Reader) (s : List ℕ) (at : ℕ) (q : Said) → q ≡ read (doctype-before D nothing >> end) s at → q ≡ read (doctype-before D end) s at
+pub read-ended : (D : Dialect) (end : Reader) (s : List ℕ) (at : ℕ) (q : Said) → q ≡ read (doctype-before D too-deep nothing >> end) s at → q ≡ read (doctype-before D too-deep end) s at
 unfolding read
 read-ended D end s at q a = a ∙ ap (placed at) (sym (doctype-then D end (drop at s)))

@@ -2,7 +2,7 @@
 use mathlib.Core.Bool.{_||_}
 use Rattle.spec.specs.Grammar.Languages.{ascii}
 use Rattle.spec.specs.Grammar.Names.{Dialect}
-use Rattle.spec.specs.Reading.Refusals.{unexpected}
+use Rattle.spec.specs.Reading.Refusals.{unexpected, too-deep}
 use Rattle.spec.specs.Reading.Readers.{Reader, _>>_, nothing, starts, choose, on, word}
 use Rattle.spec.specs.Reading.Dtd.{skip-s, parse-external-id, parse-internal-subset}
 
@@ -10,4 +10,4 @@ unfoldable pub id-part : Reader
 id-part = choose (λ w. starts (ascii "SYSTEM") w || starts (ascii "PUBLIC") w) (parse-external-id >> skip-s) nothing
 
 unfoldable pub subset-part : Dialect → Reader
-subset-part D = on "[" (word "[" unexpected >> parse-internal-subset D >> skip-s) nothing
+subset-part D = on "[" (word "[" unexpected >> parse-internal-subset D too-deep >> skip-s) nothing

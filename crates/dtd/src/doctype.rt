@@ -17,6 +17,7 @@ use source::admit_at;
 use subset::parse_internal_subset;
 ghost use mathlib.Core.Path.{_≡_};
 ghost use Rattle.spec.specs.Grammar.AppendixB.{appendix-B};
+ghost use Rattle.spec.specs.Reading.Refusals.{too-deep};
 ghost use Rattle.spec.specs.Reading.Dtd.{doctype-before, check-doctype};
 ghost use Rattle.spec.specs.Reading.Readers.{nothing, number-of};
 ghost use Rattle.spec.specs.Promises.{ChecksDoctype, Stops};
@@ -55,7 +56,7 @@ fn parse_subset_part(s: &[u8], at: usize, names: Names) -> Answer
 
 // [28] doctypedecl after its `<!DOCTYPE`, up to what ends it: the text's end here, the `>` in a document
 pub fn parse_before_end(s: &[u8], at: usize, names: Names) -> Answer
-    ensures { λ r. ⌜ said r ≡ read (doctype-before (dialect names) nothing) (now (s .entry)) at ⌝ }
+    ensures { λ r. ⌜ said r ≡ read (doctype-before (dialect names) too-deep nothing) (now (s .entry)) at ⌝ }
 {
     let i = skip_s(s, at);
     let r = need_name(s, i, names);

@@ -32,16 +32,16 @@ use Rattle.models.proofs.Signs.{sign-yes, connector-ends, some-sign, st
 use Rattle.error.proofs.Whiles.{unroll, whiles}
 
 -- by the height
-pub group-none : (n : Names) (h m at : ℕ) (s : List ℕ) → h ≡ 0 → m ≡ number too-deep → said (No m at) ≡ read (parse-group (dialect n) h) s at
+pub group-none : (n : Names) (h m at : ℕ) (s : List ℕ) → h ≡ 0 → m ≡ number too-deep → said (No m at) ≡ read (parse-group (dialect n) too-deep h) s at
 unfolding read said parse-group refuse dialect
 group-none AppendixB h m at s e f = rw (e, f, add-zero)
 
-pub group-some : (D : Dialect) (h at : ℕ) (s : List ℕ) (q : Said) → (h ≡ 0 → ⊥) → q ≡ read (word "(" unexpected >> skip-s >> cp-of D (parse-group D (h - 1)) >> skip-s >> group-end (cp-of D (parse-group D (h - 1)))) s at → q ≡ read (parse-group D h) s at
+pub group-some : (D : Dialect) (h at : ℕ) (s : List ℕ) (q : Said) → (h ≡ 0 → ⊥) → q ≡ read (word "(" unexpected >> skip-s >> cp-of D (parse-group D too-deep (h - 1)) >> skip-s >> group-end (cp-of D (parse-group D too-deep (h - 1)))) s at → q ≡ read (parse-group D too-deep h) s at
 unfolding parse-group group-of group-end
 group-some D zero at s q n a = absurd (n refl)
 group-some D (suc h) at s q n a = rw sub-one at a
 
-pub all-groups : (n : Names) (at : ℕ) (s : List ℕ) (q : Said) → q ≡ read (parse-group (dialect n) 64) s at → q ≡ read (parse-group (dialect n) (dialect n .groups)) s at
+pub all-groups : (n : Names) (at : ℕ) (s : List ℕ) (q : Said) → q ≡ read (parse-group (dialect n) too-deep 64) s at → q ≡ read (parse-group (dialect n) too-deep (dialect n .groups)) s at
 unfolding dialect
 all-groups AppendixB at s q a = a
 

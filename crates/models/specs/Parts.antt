@@ -5,7 +5,7 @@ use lib.ListN.{drop}
 use Rattle.spec.specs.Grammar.Characters.{space}
 use Rattle.spec.specs.Grammar.Languages.{ascii}
 use Rattle.spec.specs.Grammar.Names.{Dialect}
-use Rattle.spec.specs.Reading.Refusals.{unexpected, bad-connector}
+use Rattle.spec.specs.Reading.Refusals.{unexpected, bad-connector, too-deep}
 use Rattle.spec.specs.Reading.Readers.{Reader, _>>_, nothing, refuse, starts, choose, on, word, run, while}
 use Rattle.spec.specs.Reading.Wellformed.{name}
 use Rattle.spec.specs.Reading.Dtd.{after, connected, parse-mixed, parse-children}
@@ -26,4 +26,4 @@ mixed-end D = on "|" (after "|" (name D) >> mixed-names D) (word ")" unexpected 
 unfoldable pub model : Dialect → Reader
 model D =
     choose (λ w. starts (ascii "(") w && starts (ascii "#PCDATA") (drop (1 + run space (drop 1 w)) w)) (parse-mixed D)
-    (on "(" (parse-children D) (refuse unexpected))
+    (on "(" (parse-children D too-deep) (refuse unexpected))

@@ -10,6 +10,7 @@ ghost use mathlib.Core.Path.{_≡_};
 ghost use mathlib.Core.List.{[], _∷_};
 ghost use lib.ListN.{drop};
 ghost use Rattle.spec.specs.Reading.Readers.{starts};
+ghost use Rattle.spec.specs.Reading.Refusals.{too-deep};
 ghost use Rattle.spec.specs.Reading.Dtd.{connector, occurs, cp-of, parse-group, parse-children, parse-mixed, parse-contentspec};
 ghost use Rattle.error.specs.Read.{said, read};
 ghost use Rattle.classes.specs.Classes.{dialect};
@@ -47,7 +48,7 @@ fn occurrence_end(s: &[u8], at: usize) -> Answer
 
 // [48] cp, in which so many groups may yet be opened.
 fn parse_cp(s: &[u8], at: usize, height: usize, names: Names) -> Answer
-    ensures { λ r. ⌜ said r ≡ read (cp-of (dialect names) (parse-group (dialect names) height)) (now (s .entry)) at ⌝ }
+    ensures { λ r. ⌜ said r ≡ read (cp-of (dialect names) (parse-group (dialect names) too-deep height)) (now (s .entry)) at ⌝ }
 {
     if at_sign(s, at, b'(') {
         let r = parse_group(s, at, height, names);
@@ -66,7 +67,7 @@ fn parse_cp(s: &[u8], at: usize, height: usize, names: Names) -> Answer
 // [49] choice and [50] seq after the first particle and white space: the first connector fixes which of the two it is. The byte here
 // may also be no connector; then the loop is not entered.
 fn group_end(s: &[u8], at: usize, height: usize, names: Names) -> Answer
-    ensures { λ r. ⌜ said r ≡ read (group-end (cp-of (dialect names) (parse-group (dialect names) height))) (now (s .entry)) at ⌝ }
+    ensures { λ r. ⌜ said r ≡ read (group-end (cp-of (dialect names) (parse-group (dialect names) too-deep height))) (now (s .entry)) at ⌝ }
 {
     let sep = byte_at(s, at);
     let mut j = at;
@@ -90,7 +91,7 @@ fn group_end(s: &[u8], at: usize, height: usize, names: Names) -> Answer
 
 // [49] choice and [50] seq, where so many groups may yet be opened, itself counted.
 fn parse_group(s: &[u8], at: usize, height: usize, names: Names) -> Answer
-    ensures { λ r. ⌜ said r ≡ read (parse-group (dialect names) height) (now (s .entry)) at ⌝ }
+    ensures { λ r. ⌜ said r ≡ read (parse-group (dialect names) too-deep height) (now (s .entry)) at ⌝ }
 {
     if height == 0 {
         return Answer::No(error::TOO_DEEP, at);
@@ -109,7 +110,7 @@ fn parse_group(s: &[u8], at: usize, height: usize, names: Names) -> Answer
 
 // [47] children, at the '(' where parse_contentspec calls it.
 pub fn parse_children(s: &[u8], at: usize, names: Names) -> Answer
-    ensures { λ r. ⌜ said r ≡ read (parse-children (dialect names)) (now (s .entry)) at ⌝ }
+    ensures { λ r. ⌜ said r ≡ read (parse-children (dialect names) too-deep) (now (s .entry)) at ⌝ }
 {
     let r = parse_group(s, at, GROUPS, names);
     let Answer::At(e) = r else {
@@ -190,7 +191,7 @@ fn parse_model(s: &[u8], at: usize, names: Names) -> Answer
 
 // [46] contentspec.
 pub fn parse_contentspec(s: &[u8], at: usize, names: Names) -> Answer
-    ensures { λ r. ⌜ said r ≡ read (parse-contentspec (dialect names)) (now (s .entry)) at ⌝ }
+    ensures { λ r. ⌜ said r ≡ read (parse-contentspec (dialect names) too-deep) (now (s .entry)) at ⌝ }
 {
     let r = eat_str(s, at, b"EMPTY", error::UNEXPECTED);
     if let Answer::At(e) = r {

@@ -9,7 +9,8 @@ use lib.Dec.{leb}
 use lib.ListN.{length}
 use Rattle.spec.specs.Basics.{limit}
 use Rattle.spec.specs.Conditions.{letters, Size, Limited, sizes, Alphabet, Ascii, alphabets}
-use Rattle.spec.specs.Grammar.AppendixB.{in-table, start-char, part-char, appendix-B}
+use Rattle.spec.specs.Grammar.AppendixB.{start-char, part-char, appendix-B}
+use Rattle.spec.specs.Grammar.Ranges.{in-table}
 use Rattle.spec.specs.Grammar.Characters.{xml-char, Chars}
 use Rattle.spec.specs.Grammar.Languages.{end, more}
 use Rattle.spec.specs.Grammar.Names.{Dialect, with-classes}

@@ -11,17 +11,17 @@ use Rattle.spec.specs.Grammar.AppendixB.{appendix-B}
 use Rattle.spec.specs.Grammar.Characters.{xml-char, Chars}
 use Rattle.spec.specs.Grammar.Division.{Front, Division}
 use Rattle.spec.specs.Grammar.Doctype.{doctypedecl}
-use Rattle.spec.specs.Grammar.Names.{Dialect, Name, NCName, with-groups, with-beyond, AsciiNames}
+use Rattle.spec.specs.Grammar.Names.{Dialect, Name, NCName, with-groups, AsciiNames}
 use Rattle.spec.specs.Grammar.Prolog.{from-to, Begins, doctype-of, encoding-of, Document}
 use Rattle.spec.specs.Grammar.References.{Referred, CharData, AttText}
 use Rattle.spec.specs.Grammar.XmlDecl.{XMLDecl}
 use Rattle.spec.specs.Promises.{Checks, Stops, Tells, Covered, expected}
 use Rattle.spec.specs.Reading.Checks.{check-declaration, is-ncname}
 use Rattle.spec.specs.Reading.Document.{legal-length}
-use Rattle.spec.specs.Reading.Dtd.{check-doctype}
+use Rattle.spec.specs.Reading.Dtd.{doctype-before, check-doctype}
 use Rattle.spec.specs.Reading.Entries.{declarations}
-use Rattle.spec.specs.Reading.Readers.{ok, err, Reader, nothing}
-use Rattle.spec.specs.Reading.Refusals.{Refusal}
+use Rattle.spec.specs.Reading.Readers.{ok, err, Reader, nothing, at-end}
+use Rattle.spec.specs.Reading.Refusals.{Refusal, trailing}
 use Rattle.spec.specs.Reading.Scan.{scan}
 use Rattle.spec.specs.Reading.Source.{admit, checked, checked-at}
 use Rattle.spec.specs.Reading.Verdict.{accepted, refused, number-in, place-in, opened-in, doctype-in, encoding-read, mark-length, unmarked, moved, check-document}
@@ -44,7 +44,7 @@ use Rattle.spec.proofs.Document.Located.{check-lies}
 use Rattle.spec.proofs.Document.Marks.{check-refused-stays}
 use Rattle.spec.proofs.Document.Told.{told-inside}
 use Rattle.spec.proofs.Document.Whole.{document-right, parts-right, check-stays}
-use Rattle.spec.proofs.Dtd.Depth.{met-exactly-B, deeper-same-B}
+use Rattle.spec.proofs.Dtd.Depth.{met-at-20, unmet-free}
 use Rattle.spec.proofs.Dtd.Texts.{doctype-agrees}
 use Rattle.spec.proofs.Inside.Chars.{illegal-there, none-before}
 use Rattle.spec.proofs.Inside.Checks.{chars-placed, char-refs-placed, text-placed, attr-value-placed, name-placed, doctype-placed, declaration-placed}
@@ -90,15 +90,15 @@ ncname-right = tells (ncname-decides appendix-B appendix-B-ascii)
 pub sixteen-rows : All Numbered rows
 sixteen-rows = Rows.rows-numbered
 
--- 20 is the answer exactly where the text may be looked at and a 65th open group is the first thing refused: whatever one more group is
--- refused with, that is the answer then, at the same place
-pub groups-exactly : (w : List ℕ) → (checked (check-doctype appendix-B) w ≡ 20) ↔ (((k : ℕ) × (admit w ≡ ok k)) × ((k : ℕ) × ((r : Refusal) → check-doctype (with-beyond appendix-B r) w ≡ err r k)))
-groups-exactly = met-exactly-B
+-- 20 is the answer exactly where the text may be looked at and one open group more than the limit is the first thing refused: whatever that
+-- is refused with, it is the answer then, at the same place
+pub groups-exactly : (D : Dialect) (w : List ℕ) → (checked (check-doctype D) w ≡ 20) ↔ (((k : ℕ) × (admit w ≡ ok k)) × ((k : ℕ) × ((r : Refusal) → doctype-before D r (at-end trailing) w ≡ err r k)))
+groups-exactly = met-at-20
 
 -- and that limit changes no answer but 20
-pub groups-free : (w : List ℕ) → (checked (check-doctype appendix-B) w ≡ 20 → ⊥)
-    → (n : ℕ) → 64 ≤ n → checked (check-doctype (with-groups appendix-B n)) w ≡ checked (check-doctype appendix-B) w
-groups-free = deeper-same-B
+pub groups-free : (D : Dialect) (w : List ℕ) → (checked (check-doctype D) w ≡ 20 → ⊥)
+    → (n : ℕ) → D .groups ≤ n → checked (check-doctype (with-groups D n)) w ≡ checked (check-doctype D) w
+groups-free = unmet-free
 
 -- Demand 3: an accepted DOCTYPE has no subset, or a division into entries; not both, and not two.
 pub accepted-divided : (w : List ℕ) → doctypedecl appendix-B w ↔ (Front appendix-B w ⊎ Division appendix-B w)

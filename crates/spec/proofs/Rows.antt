@@ -10,7 +10,8 @@ use Rattle.spec.specs.Grammar.Languages.{ascii}
 use Rattle.spec.specs.Grammar.Characters.{xml-char}
 use Rattle.spec.specs.Grammar.Doctype.{doctypedecl}
 use Rattle.spec.specs.Grammar.References.{digit-value, value-on}
-use Rattle.spec.specs.Grammar.AppendixB.{in-table, start-char, part-char, appendix-B}
+use Rattle.spec.specs.Grammar.AppendixB.{start-char, part-char, appendix-B}
+use Rattle.spec.specs.Grammar.Ranges.{in-table}
 use Rattle.spec.specs.Grammar.Literals.{pubid-char}
 use Rattle.spec.specs.Grammar.Encodings.{coding-of, looks-like}
 use Rattle.spec.specs.Reading.Document.{at-most, closing, is-declaration, read-declaration, item-here, read-item, read-misc, read-doctype-text, read-doctype, read-opening, read-ending, read-prolog, read-other, read-tag, read-beginning, legal-length, find-doctype}

@@ -4,6 +4,7 @@ pub mod Languages
 pub mod Characters
 pub mod References
 pub mod Names
+pub mod Ranges
 pub mod AppendixB
 pub mod Literals
 pub mod ContentModels

@@ -13,7 +13,7 @@ use lib.Dec.{eqb}
 use lib.ListN.{length, getD, drop}
 use Rattle.spec.specs.Grammar.Characters.{space}
 use Rattle.spec.specs.Grammar.Names.{Dialect}
-use Rattle.spec.specs.Reading.Refusals.{number, unexpected, unterminated}
+use Rattle.spec.specs.Reading.Refusals.{number, unexpected, unterminated, too-deep}
 use Rattle.spec.specs.Reading.Readers.{Reader, _>>_, refuse, at-end, starts, choose, on, word-of, run}
 use Rattle.spec.specs.Reading.Dtd.{skip-s, parse-pe-reference, parse-markup-decl, parse-internal-subset}
 use Rattle.spec.proofs.Base.Loops.{Somes}
@@ -78,19 +78,19 @@ module _ (D : Dialect) (pe : Bool) (s : List ℕ) (i₀ i b : ℕ) (W : Said) (i
     reference-less j g = onward (parse-pe-reference D) (some-reference D) (λ z. omega arith) r a j g
 
   -- a declaration, an instruction or a comment
-  module _ (n : b ≡ 93 → ⊥) (m : b ≡ 37 → ⊥) (f : b ≡ 60) (r : Answer) (a : said r ≡ read (parse-markup-decl D pe) s i) where
-    by-markup : read (parse-markup-decl D pe >> items D pe) s i ≡ W
+  module _ (n : b ≡ 93 → ⊥) (m : b ≡ 37 → ⊥) (f : b ≡ 60) (r : Answer) (a : said r ≡ read (parse-markup-decl D too-deep pe) s i) where
+    by-markup : read (parse-markup-decl D too-deep pe >> items D pe) s i ≡ W
     unfolding read item on choose
     by-markup = (rw (isn't 93 (λ z. omega arith) n, isn't 37 (λ z. omega arith) m, is 60 (λ z. omega arith) f)) ∙ here
 
     pub item-markup-no : (k o : ℕ) → r ≡ No k o → said r ≡ W
-    item-markup-no k o g = seq-no (parse-markup-decl D pe) (items D pe) s i k o r a g ∙ by-markup
+    item-markup-no k o g = seq-no (parse-markup-decl D too-deep pe) (items D pe) s i k o r a g ∙ by-markup
 
     pub item-markup : (j : ℕ) → r ≡ At j → read (items D pe) s j ≡ W
-    item-markup j g = seq-at (parse-markup-decl D pe) (items D pe) s i j r _ a g refl ∙ by-markup
+    item-markup j g = seq-at (parse-markup-decl D too-deep pe) (items D pe) s i j r _ a g refl ∙ by-markup
 
     pub markup-less : (j : ℕ) → r ≡ At j → length s - j < length s - i₀
-    markup-less j g = onward (parse-markup-decl D pe) (some-markup D pe) (λ z. omega arith) r a j g
+    markup-less j g = onward (parse-markup-decl D too-deep pe) (some-markup D pe) (λ z. omega arith) r a j g
 
   -- anything else, or the text's end
   module _ (n : b ≡ 93 → ⊥) (m : b ≡ 37 → ⊥) (f : b ≡ 60 → ⊥) where
@@ -107,7 +107,7 @@ module _ (D : Dialect) (pe : Bool) (s : List ℕ) (i₀ i b : ℕ) (W : Said) (i
     item-none l = (rw (drop-end s i l, add-zero)) ∙ by-rest
 
 -- the subset is the items from its '[' on
-pub subset-starts : (D : Dialect) (s : List ℕ) (at : ℕ) → read (items D false) s at ≡ read (parse-internal-subset D) s at
+pub subset-starts : (D : Dialect) (s : List ℕ) (at : ℕ) → read (items D false) s at ≡ read (parse-internal-subset D too-deep) s at
 unfolding read
 subset-starts D s at = ap (placed at) (sym (subset-items D (drop at s)))
 

@@ -17,6 +17,7 @@ use markup::take_decl_body;
 use models::parse_contentspec;
 use search::at_keyword;
 ghost use mathlib.Core.Path.{_≡_};
+ghost use Rattle.spec.specs.Reading.Refusals.{too-deep};
 ghost use Rattle.spec.specs.Reading.Dtd.{parse-element-decl, finish-decl, parse-markup-decl};
 ghost use Rattle.error.specs.Read.{said, read};
 ghost use Rattle.classes.specs.Classes.{dialect};
@@ -32,7 +33,7 @@ pub enum Kind {
 
 // [45] elementdecl, its body
 fn parse_element_decl(body: &[u8], at: usize, names: Names) -> Answer
-    ensures { λ r. ⌜ said r ≡ read (parse-element-decl (dialect names)) (now (body .entry)) at ⌝ }
+    ensures { λ r. ⌜ said r ≡ read (parse-element-decl (dialect names) too-deep) (now (body .entry)) at ⌝ }
 {
     let r = require_s(body, at);
     let Answer::At(i) = r else {
@@ -119,7 +120,7 @@ fn parse_declaration(s: &[u8], at: usize, pe_used: bool, names: Names) -> Answer
 
 // [29] markupdecl; a conditional section is none
 pub fn parse_markup_decl(s: &[u8], at: usize, pe_used: bool, names: Names) -> Answer
-    ensures { λ r. ⌜ said r ≡ read (parse-markup-decl (dialect names) «pe_used») (now (s .entry)) at ⌝ }
+    ensures { λ r. ⌜ said r ≡ read (parse-markup-decl (dialect names) too-deep «pe_used») (now (s .entry)) at ⌝ }
 {
     if at_keyword(s, at, b"<?") {
         return parse_pi(s, at, names);

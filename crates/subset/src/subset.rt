@@ -8,13 +8,14 @@ use error::UNTERMINATED;
 use markup::parse_pe_reference;
 use utf8::byte_at;
 ghost use mathlib.Core.Path.{_≡_};
+ghost use Rattle.spec.specs.Reading.Refusals.{too-deep};
 ghost use Rattle.spec.specs.Reading.Dtd.{parse-internal-subset};
 ghost use Rattle.error.specs.Read.{said, read};
 ghost use Rattle.classes.specs.Classes.{dialect};
 
 // [28b] intSubset and the ']' that closes it, from the place after its '['
 pub fn parse_internal_subset(s: &[u8], at: usize, names: Names) -> Answer
-    ensures { λ r. ⌜ said r ≡ read (parse-internal-subset (dialect names)) (now (s .entry)) at ⌝ }
+    ensures { λ r. ⌜ said r ≡ read (parse-internal-subset (dialect names) too-deep) (now (s .entry)) at ⌝ }
 {
     let mut pe_used = false;
     let mut i = at;

@@ -1,5 +1,5 @@
 -- `classes::is_base_char` meets its contract: the code's table is the grammar's; that it ascends is computed. Assumes nothing.
-use Rattle.spec.specs.Grammar.AppendixB.{ascending}
+use Rattle.spec.specs.Grammar.Ranges.{ascending}
 use Rattle.classes.proofs.RangeLaws.{tables}
 use Rattle.classes.proofs.is_base_char.Statement.{statement}
 use Rattle.classes.proofs.is_base_char.Tie as tie

@@ -3,7 +3,7 @@
 -- The loop's invariant: the answer from j on is the whole answer. Assumes nothing.
 use mathlib.Core.Path.{_≡_}
 use lib.ListN.{length}
-use Rattle.spec.specs.Reading.Refusals.{unexpected}
+use Rattle.spec.specs.Reading.Refusals.{unexpected, too-deep}
 use Rattle.spec.specs.Reading.Readers.{_>>_, word, while}
 use Rattle.spec.specs.Reading.Dtd.{connector, cp-of, parse-group}
 use Rattle.error.specs.Read.{read}
@@ -64,7 +64,7 @@ parse-group-below t =
 
 abbrev group-end-Inv-loop : group-end-lts.InvT-loop
 group-end-Inv-loop s at height names sep j₀ j =
-    read (while connector (turn sep (cp-of (dialect names) (parse-group (dialect names) height))) >> word ")" unexpected) s j ≡ read (group-end (cp-of (dialect names) (parse-group (dialect names) height))) s at
+    read (while connector (turn sep (cp-of (dialect names) (parse-group (dialect names) too-deep height))) >> word ")" unexpected) s j ≡ read (group-end (cp-of (dialect names) (parse-group (dialect names) too-deep height))) s at
 
 abbrev group-end-μ-loop : group-end-lts.MeasureT-loop
 group-end-μ-loop s at height names sep j₀ j = length s - j

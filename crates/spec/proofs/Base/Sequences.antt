@@ -7,6 +7,7 @@ use native.Mathlib.Nat.{zero-add}
 use lib.ListN.{drop}
 use lib.Seq.{drop-drop}
 use Rattle.spec.specs.Grammar.Names.{Dialect}
+use Rattle.spec.specs.Reading.Refusals.{too-deep}
 use Rattle.spec.specs.Reading.Dtd.{doctype-before}
 use Rattle.spec.specs.Reading.Readers.{Result, ok, err, Reader, on-ok, past, _>>_, nothing}
 use Rattle.spec.proofs.Base.Results.{past-past}
@@ -44,6 +45,6 @@ open-then a {f} o = record { taken-off = λ end w. go end w (a w) ∙ sym (then-
     go end w (err r k) = refl
 
 -- so a DOCTYPE's text can be read first, and then what ends it
-pub doctype-then : (D : Dialect) (end : Reader) (w : List ℕ) → doctype-before D end w ≡ (doctype-before D nothing >> end) w
+pub doctype-then : (D : Dialect) (end : Reader) (w : List ℕ) → doctype-before D too-deep end w ≡ (doctype-before D too-deep nothing >> end) w
 unfolding doctype-before
 doctype-then D = open-then _ (open-then _ (open-then _ (open-then _ (open-then _ open-here)))) .taken-off

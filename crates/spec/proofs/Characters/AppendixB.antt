@@ -2,8 +2,9 @@
 use mathlib.Core.Bool.{Bool, true, _&&_}
 use mathlib.Core.Path.{_≡_, refl}
 use Prim.Native.Nat.{ℕ, _<_}
-use Rattle.spec.specs.Grammar.AppendixB.{base-chars, ideographs, combining, digits, extenders, in-table, ascending, start-char, part-char, appendix-B}
+use Rattle.spec.specs.Grammar.AppendixB.{base-chars, ideographs, combining, digits, extenders, start-char, part-char, appendix-B}
 use Rattle.spec.specs.Grammar.Names.{Dialect, AsciiNames, start-sign, part-sign}
+use Rattle.spec.specs.Grammar.Ranges.{in-table, ascending}
 use Rattle.spec.proofs.Agreement.Signs.{below, below-at, at-below}
 use Rattle.spec.proofs.Base.Tests.{alike, alike-same, same-alike, and-left, and-right, and-both}
 

@@ -18,7 +18,7 @@ use Rattle.spec.specs.Reading.Dtd.{skip-s, finish-decl, take-decl-body, 
 use Rattle.spec.specs.Reading.Entries.{kind-at, one-entry, listed, entries-fuel, entries-from, from-open, declarations}
 use Rattle.spec.specs.Reading.Places.{outside}
 use Rattle.spec.specs.Reading.Readers.{Result, ok, err, Reader, on-ok, past, _>>_, nothing, starts, choose, on, word-of, run}
-use Rattle.spec.specs.Reading.Refusals.{Refusal, unexpected}
+use Rattle.spec.specs.Reading.Refusals.{Refusal, unexpected, too-deep}
 use Rattle.spec.specs.Reading.Scan.{subset-open}
 use Rattle.spec.proofs.Agreement.Runs.{not-space, skip}
 use Rattle.spec.proofs.Agreement.Signs.{kind, sub-refl}
@@ -56,20 +56,20 @@ module _ (D : Dialect) where
       let (i, l, m) = on-ok-ok (pick (pe || has-pe-reference D (take j w)) nothing body (take j w)) (λ _. ok (j + 1)) k g in
       ap (λ (x : Result). on-ok x (λ i. ok (i + 1))) f ∙ m
 
-  loose-markup : (pe : Bool) (w : List ℕ) (k : ℕ) → Looser w k (parse-markup-decl D pe) (parse-markup-decl D true)
+  loose-markup : (pe : Bool) (w : List ℕ) (k : ℕ) → Looser w k (parse-markup-decl D too-deep pe) (parse-markup-decl D too-deep true)
   unfolding parse-markup-decl
   loose-markup pe w k =
       loose-on "<?" w k _ _ _ _ (λ e. e) (loose-on "<!--" w k _ _ _ _ (λ e. e) (loose-on "<![" w k _ _ _ _ (λ e. e)
-      (loose-on "<!ELEMENT" w k _ _ _ _ (loose-then _ _ _ w k (loose-finish pe (parse-element-decl D)))
+      (loose-on "<!ELEMENT" w k _ _ _ _ (loose-then _ _ _ w k (loose-finish pe (parse-element-decl D too-deep)))
       (loose-on "<!ATTLIST" w k _ _ _ _ (loose-then _ _ _ w k (loose-finish pe (parse-attlist-decl D)))
       (loose-on "<!ENTITY" w k _ _ _ _ (loose-then _ _ _ w k (loose-finish pe (parse-entity-decl D)))
       (loose-then _ _ _ w k (loose-finish pe (parse-notation-decl D))))))))
 
-  loose-entry : (pe : Bool) (w : List ℕ) (k : ℕ) → Looser w k (on "%" (parse-pe-reference D) (parse-markup-decl D pe)) (one-entry D)
+  loose-entry : (pe : Bool) (w : List ℕ) (k : ℕ) → Looser w k (on "%" (parse-pe-reference D) (parse-markup-decl D too-deep pe)) (one-entry D)
   loose-entry pe w k = loose-on "%" w k _ _ _ _ (λ e. e) (loose-markup pe w k)
 
   some-entry : Somes (one-entry D)
-  some-entry = some-on "%" (parse-pe-reference D) (parse-markup-decl D true) (some-reference D) (some-markup D true)
+  some-entry = some-on "%" (parse-pe-reference D) (parse-markup-decl D too-deep true) (some-reference D) (some-markup D true)
 
   no-entry : one-entry D [] ≡ err unexpected 0
   unfolding on choose parse-markup-decl starts word-of _>>_

@@ -18,6 +18,7 @@ use Rattle.spec.specs.Grammar.Division.{Kind, element, attlist, entity, 
 use Rattle.spec.specs.Grammar.Doctype.{intSubset, doctypedecl}
 use Rattle.spec.specs.Grammar.Languages.{Lang, lit, ascii, _·_, _∣_, inl, inr, Opt, any}
 use Rattle.spec.specs.Grammar.Names.{Dialect, PEReference, AsciiNames}
+use Rattle.spec.specs.Reading.Refusals.{too-deep}
 use Rattle.spec.specs.Reading.Dtd.{skip-s, parse-pe-reference, parse-markup-decl}
 use Rattle.spec.specs.Reading.Readers.{ok, Reader, starts, on, past}
 use Rattle.spec.specs.Reading.Places.{at, outside}
@@ -68,7 +69,7 @@ module _ (D : Dialect) (A : AsciiNames D) where
   pe-reads : Reads (parse-pe-reference D) (PEReference D) (Next any) (first-of "%")
   pe-reads = Subset.pe-reads D A
 
-  entry-reads : (pe : Bool) → Reads (on "%" (parse-pe-reference D) (parse-markup-decl D pe)) (PEReference D ∣ markupdecl D pe) (Next any) (first-of "%" ∪ first-of "<")
+  entry-reads : (pe : Bool) → Reads (on "%" (parse-pe-reference D) (parse-markup-decl D too-deep pe)) (PEReference D ∣ markupdecl D pe) (Next any) (first-of "%" ∪ first-of "<")
   unfolding PEReference
   entry-reads pe = on-begun "%" tt (λ u v l. starts-lit "%" v l) pe-reads (markup-reads D A pe)
 
@@ -90,7 +91,7 @@ module _ (D : Dialect) (A : AsciiNames D) where
   sorted pe k y (Logic.inr x) = inr (x .1)
 
   -- an entry is what its reader takes, and begins with one of two signs
-  pub entry-taken : (pe : Bool) (k : Kind) (y v : List ℕ) → entry-of D pe k y → on "%" (parse-pe-reference D) (parse-markup-decl D pe) (y ++ v) ≡ ok (length y)
+  pub entry-taken : (pe : Bool) (k : Kind) (y v : List ℕ) → entry-of D pe k y → on "%" (parse-pe-reference D) (parse-markup-decl D too-deep pe) (y ++ v) ≡ ok (length y)
   entry-taken pe k y v l = entry-reads pe .complete y v (sorted pe k y (sort pe k y l)) (record { it = tt })
 
   abbrev pub entry-first : Class
@@ -113,7 +114,7 @@ module _ (D : Dialect) (A : AsciiNames D) where
   -- two entries at one place are the same
   same-entry : (pe : Bool) (k m : Kind) (x y v w : List ℕ) → entry-of D pe k x → entry-of D pe m y → x ++ v ≡ y ++ w → (k ≡ m) × (x ≡ y) × (v ≡ w)
   same-entry pe k m x y v w a b e =
-      let (f, g) = same-taken (on "%" (parse-pe-reference D) (parse-markup-decl D pe)) x y v w (entry-taken pe k x v a) (entry-taken pe m y w b) e in
+      let (f, g) = same-taken (on "%" (parse-pe-reference D) (parse-markup-decl D too-deep pe)) x y v w (entry-taken pe k x v a) (entry-taken pe m y w b) e in
       (sym (kind-is pe k x v a) ∙ ap kind-at e ∙ kind-is pe m y w b, f, g)
 
   regroup : {w : List ℕ} (s y z c : List ℕ) → w ≡ s ++ (y ++ z) → w ++ c ≡ s ++ (y ++ (z ++ c))

@@ -18,7 +18,7 @@ use Rattle.spec.specs.Reading.Dtd.{finish-decl, take-decl-body, has-pe-r
 use Rattle.spec.specs.Reading.Entries.{kind-at, one-entry, listed, entries-fuel, entries-from, from-open, declarations}
 use Rattle.spec.specs.Reading.Places.{Place, at, nowhere}
 use Rattle.spec.specs.Reading.Readers.{Result, ok, err, Reader, _>>_, nothing, refuse, starts, choose, on, word, word-of, run, contains}
-use Rattle.spec.specs.Reading.Refusals.{Refusal, unexpected}
+use Rattle.spec.specs.Reading.Refusals.{Refusal, unexpected, too-deep}
 use Rattle.spec.specs.Reading.Scan.{subset-open}
 use Rattle.spec.specs.Unread.{body-of, goes-unread, unread-entries, CountsUnread}
 use Rattle.spec.proofs.Agreement.Words.{starts-split}
@@ -85,7 +85,7 @@ module _ (D : Dialect) where
   -- the last four words of parse_markup_decl
   abbrev parse-declaration : Reader
   parse-declaration =
-      on "<!ELEMENT" (word "<!ELEMENT" unexpected >> finish-decl D true (parse-element-decl D))
+      on "<!ELEMENT" (word "<!ELEMENT" unexpected >> finish-decl D true (parse-element-decl D too-deep))
       (on "<!ATTLIST" (word "<!ATTLIST" unexpected >> finish-decl D true (parse-attlist-decl D))
       (on "<!ENTITY" (word "<!ENTITY" unexpected >> finish-decl D true (parse-entity-decl D))
       (word "<!NOTATION" unexpected >> finish-decl D true (parse-notation-decl D))))
@@ -148,7 +148,7 @@ module _ (D : Dialect) where
 
   room-element : (v : List ℕ) (k : ℕ) → one-entry D (ascii "<!ELEMENT" ++ v) ≡ ok k → 9 < k
   unfolding on choose starts parse-markup-decl
-  room-element v k e = room "<!ELEMENT" (parse-element-decl D) (ascii "<!ELEMENT" ++ v) k e
+  room-element v k e = room "<!ELEMENT" (parse-element-decl D too-deep) (ascii "<!ELEMENT" ++ v) k e
 
   room-attlist : (v : List ℕ) (k : ℕ) → one-entry D (ascii "<!ATTLIST" ++ v) ≡ ok k → 9 < k
   unfolding on choose starts parse-markup-decl

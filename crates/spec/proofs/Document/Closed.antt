@@ -15,7 +15,7 @@ use Rattle.spec.specs.Reading.Document.{read-doctype-text}
 use Rattle.spec.specs.Reading.Dtd.{skip-s, require-s, parse-quoted, check-pubid, parse-external-id, check-comment, parse-comment, check-pi, parse-pi, bytes-before, take-decl-body, has-pe-reference, finish-decl, parse-pe-reference, parse-element-decl, parse-attlist-decl, parse-entity-decl, parse-notation-decl, parse-markup-decl, doctype-before}
 use Rattle.spec.specs.Reading.Places.{Place, at, nowhere, outside}
 use Rattle.spec.specs.Reading.Readers.{Result, ok, err, Reader, on-ok, _>>_, nothing, refuse, at-end, starts, choose, on, word, word-of, run, required, begins, char}
-use Rattle.spec.specs.Reading.Refusals.{Refusal, unterminated, unexpected, trailing, bad-name}
+use Rattle.spec.specs.Reading.Refusals.{Refusal, unterminated, unexpected, trailing, bad-name, too-deep}
 use Rattle.spec.specs.Reading.Utf8.{decode1}
 use Rattle.spec.specs.Reading.Wellformed.{parts, name}
 use Rattle.spec.proofs.Agreement.Holds.{starts-longer, lacks}
@@ -151,13 +151,13 @@ module _ (D : Dialect) where
           let l : k < length x = outside-within (one-of ">") 0 x k f in
           rw (outside-longer (one-of ">") 0 x v k f, take-longer k x v (omega arith))
 
-  closed-markup : (pe : Bool) → Closed Closing (parse-markup-decl D pe)
+  closed-markup : (pe : Bool) → Closed Closing (parse-markup-decl D too-deep pe)
   unfolding parse-markup-decl parse-pi parse-comment
   closed-markup pe =
       closed-on "<?" refl (closed-own "<?" _ refl (own-up-to "?>" (check-pi D)))
       (closed-on "<!--" refl (closed-own "<!--" _ refl (own-up-to "-->" check-comment))
       (closed-on "<![" refl (closed-refuse _)
-      (closed-on "<!ELEMENT" refl (closed-own "<!ELEMENT" _ refl (own-finish pe (parse-element-decl D)))
+      (closed-on "<!ELEMENT" refl (closed-own "<!ELEMENT" _ refl (own-finish pe (parse-element-decl D too-deep)))
       (closed-on "<!ATTLIST" refl (closed-own "<!ATTLIST" _ refl (own-finish pe (parse-attlist-decl D)))
       (closed-on "<!ENTITY" refl (closed-own "<!ENTITY" _ refl (own-finish pe (parse-entity-decl D)))
       (closed-own "<!NOTATION" _ refl (own-finish pe (parse-notation-decl D))))))))
@@ -177,7 +177,7 @@ module _ (D : Dialect) where
       (λ g. steady-choose (starts (ascii "%")) (λ c v. starts-stands (ascii "%") (drop i x) v refl c)
       (λ g. steady-then closing-some (closed-reference (drop i x)) (λ j f. closed-items d true (drop j (drop i x)) (less (parse-pe-reference D) (some-reference D) d (drop i x) j f (omega (arith, length-drop i x)))))
       (λ g. steady-choose (starts (ascii "<")) (λ c v. starts-stands (ascii "<") (drop i x) v refl c)
-      (λ g. steady-then closing-some (closed-markup pe (drop i x)) (λ j f. closed-items d pe (drop j (drop i x)) (less (parse-markup-decl D pe) (some-markup D pe) d (drop i x) j f (omega (arith, length-drop i x)))))
+      (λ g. steady-then closing-some (closed-markup pe (drop i x)) (λ j f. closed-items d pe (drop j (drop i x)) (less (parse-markup-decl D too-deep pe) (some-markup D pe) d (drop i x) j f (omega (arith, length-drop i x)))))
       (λ g. closed-unexpected (drop i x))))))
 
   -- the whole

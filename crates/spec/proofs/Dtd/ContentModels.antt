@@ -15,7 +15,7 @@ use Rattle.spec.specs.Grammar.Languages.{Lang, lit, ascii, _·_, _∣_, 
 use Rattle.spec.specs.Grammar.Names.{Dialect, Name, AsciiNames}
 use Rattle.spec.specs.Reading.Dtd.{skip-s, after, parse-mixed, connector, connected, group-of, occurs, cp-of, parse-group, parse-children, parse-contentspec, parse-element-decl}
 use Rattle.spec.specs.Reading.Readers.{Reader, _>>_, nothing, starts, on, word, run, while, begins}
-use Rattle.spec.specs.Reading.Refusals.{unexpected, trailing, bad-connector}
+use Rattle.spec.specs.Reading.Refusals.{unexpected, trailing, bad-connector, too-deep}
 use Rattle.spec.specs.Reading.Wellformed.{name}
 use Rattle.spec.proofs.Agreement.Algebra.{ε, same, back, _then_, cat, cat₂, either, assoc, over-right, over-left, plus-or-none, no-other, starred, rotate, rotate-plus, swap, regroup, none-before, none-after, words}
 use Rattle.spec.proofs.Agreement.Chars.{one-char, begins-ch, begins-stop}
@@ -143,9 +143,9 @@ module _ (D : Dialect) (A : AsciiNames D) where
   group-begun (suc h) u v (inl l) = starts-lit "(" v l
   group-begun (suc h) u v (inr l) = starts-lit "(" v l
 
-  pub groups-read : (h : ℕ) → Reads (parse-group D h) (Group D h) (Next any) (first-of "(")
+  pub groups-read : (h : ℕ) → Reads (parse-group D too-deep h) (Group D h) (Next any) (first-of "(")
   unfolding parse-group Group
-  groups-read zero = refuse-reads (D .beyond) (first-of "(")
+  groups-read zero = refuse-reads too-deep (first-of "(")
   groups-read (suc h) = group-reads (cp-reads (group-begun h) (groups-read h))
 
   -- Mixed, as it is read and as it is written
@@ -222,7 +222,7 @@ module _ (D : Dialect) (A : AsciiNames D) where
       looks (Inner C · occurrence) (Next after-spec) cp-first (by-signs tt) first u v m t
       ∙ starts-clash (ascii "#PCDATA") [] cp-first (m .second .right ++ v) tt (first (m .second .right) v (m .second .second) t)
 
-  children-reads : Reads (parse-children D) (children D) (Next after-spec) (first-of "(")
+  children-reads : Reads (parse-children D too-deep) (children D) (Next after-spec) (first-of "(")
   unfolding parse-children children
   children-reads = seq (groups-read (D .groups)) sub-any (weaken (by-signs tt) sub-refl occurs-reads)
 
@@ -230,7 +230,7 @@ module _ (D : Dialect) (A : AsciiNames D) where
   unfolding children
   children-begun u v l = ap (starts (ascii "(")) (cat-before l v) ∙ group-begun (D .groups) (l .left) (l .right ++ v) (l .first)
 
-  pub contents-reads : Reads (parse-contentspec D) (contentspec D) (Next after-spec) (one-of "EA(")
+  pub contents-reads : Reads (parse-contentspec D too-deep) (contentspec D) (Next after-spec) (one-of "EA(")
   unfolding parse-contentspec contentspec children
   contents-reads =
       weaken sub-refl (by-signs tt)
@@ -245,7 +245,7 @@ module _ (D : Dialect) (A : AsciiNames D) where
           looks (lit "#PCDATA" · S? · Mixed-tail) (Next after-spec) (first-of "#") (by-signs tt) (mixed-inner .leads) u v l t ∙ starts-lit "#PCDATA" v (l .second .second)
 
   -- elementdecl's body
-  pub element-reads : Reads (parse-element-decl D) (element-body D) (Next stop) space
+  pub element-reads : Reads (parse-element-decl D too-deep) (element-body D) (Next stop) space
   unfolding parse-element-decl element-body
   element-reads =
       as-lang (cat₂ (cat₂ (cat₂ (cat₂ none-after))))

@@ -9,12 +9,11 @@ use native.Mathlib.Omega.{arith}
 use lib.Dec.{T, ltb, eqb}
 use lib.ListN.{length}
 use Rattle.spec.specs.Basics.{pick, limit}
-use Rattle.spec.specs.Grammar.AppendixB.{appendix-B}
 use Rattle.spec.specs.Grammar.Characters.{Text}
-use Rattle.spec.specs.Grammar.Names.{Dialect, with-groups, with-beyond}
-use Rattle.spec.specs.Reading.Dtd.{check-doctype}
-use Rattle.spec.specs.Reading.Readers.{Result, ok, err, number-of, on-ok}
-use Rattle.spec.specs.Reading.Refusals.{Refusal, too-long, not-utf8, too-deep}
+use Rattle.spec.specs.Grammar.Names.{Dialect, with-groups}
+use Rattle.spec.specs.Reading.Dtd.{doctype-before, check-doctype}
+use Rattle.spec.specs.Reading.Readers.{Result, ok, err, Reader, number-of, on-ok, at-end}
+use Rattle.spec.specs.Reading.Refusals.{Refusal, too-long, not-utf8, trailing, too-deep}
 use Rattle.spec.specs.Reading.Source.{utf8, admit, checked}
 use Rattle.spec.proofs.Base.Results.{err-place}
 use Rattle.spec.proofs.Characters.Valid.{utf8-cases, utf8-complete}
@@ -40,30 +39,21 @@ deep-err {j} {y} {a} (same e t) f = absurd (not-20 a t f)
 
 -- under the limit of D, with the refusal too-deep and with x
 module _ (D : Dialect) (w : List ℕ) where
-  limited : (x : Refusal) → Alike 0 x (check-doctype (with-beyond D too-deep) w) (check-doctype (with-beyond D x) w)
+  limited : (x : Refusal) → Alike 0 x (check-doctype D w) (doctype-before D x (at-end trailing) w)
   limited x = doctype D (D .groups) 0 (omega arith) x .it w
 
   -- a text for which the refusal of one group too many is the answer, whatever it is, and at one place
   abbrev pub Deep : Type 0
-  Deep = (k : ℕ) × ((x : Refusal) → check-doctype (with-beyond D x) w ≡ err x k)
+  Deep = (k : ℕ) × ((x : Refusal) → doctype-before D x (at-end trailing) w ≡ err x k)
 
-  module _ (is : D .beyond ≡ too-deep) where
-    as-low : check-doctype D w ≡ check-doctype (with-beyond D too-deep) w
-    as-low = ap (λ (r : Refusal). check-doctype (with-beyond D r) w) is
+  met-exactly : ((k : ℕ) × (check-doctype D w ≡ err too-deep k)) ↔ Deep
+  unfolding check-doctype
+  met-exactly = (λ (k, e). (k, λ x. first-way (limited x) k e refl), λ (k, all). (k, all too-deep))
 
-    pub met-exactly : ((k : ℕ) × (check-doctype D w ≡ err too-deep k)) ↔ Deep
-    met-exactly = (λ (k, e). (k, λ x. first-way (limited x) k (sym as-low ∙ e) refl), λ (k, all). (k, as-low ∙ all too-deep))
-
-    pub unmet-same : ((k : ℕ) → check-doctype D w ≡ err too-deep k → ⊥) → (x : Refusal) → check-doctype (with-beyond D x) w ≡ check-doctype D w
-    unmet-same n x = second-way (limited x) (λ k e. n k (as-low ∙ e)) ∙ sym as-low
-
--- both are the answer under the lower limit with the refusal too-deep, which is not met
-pub deeper-same : (D : Dialect) (h j : ℕ) (w : List ℕ) → ((k : ℕ) → check-doctype (with-groups D h) w ≡ err (D .beyond) k → ⊥) → check-doctype (with-groups D (h + j)) w ≡ check-doctype (with-groups D h) w
-deeper-same D h j w n =
-    second-way (doctype (with-groups D h) (h + j) j refl (D .beyond) .it w) unmet ∙ sym (second-way (limited (with-groups D h) w (D .beyond)) unmet)
-  where
-    unmet : (k : ℕ) → check-doctype (with-beyond (with-groups D h) too-deep) w ≡ err too-deep k → ⊥
-    unmet k e = n k (first-way (limited (with-groups D h) w (D .beyond)) k e refl)
+-- where it is not met, a larger limit changes nothing
+deeper-same : (D : Dialect) (h j : ℕ) (w : List ℕ) → ((k : ℕ) → check-doctype (with-groups D h) w ≡ err too-deep k → ⊥) → check-doctype (with-groups D (h + j)) w ≡ check-doctype (with-groups D h) w
+unfolding check-doctype
+deeper-same D h j w n = second-way (doctype (with-groups D h) (h + j) j refl too-deep .it w) n
 
 -- of the public number
 
@@ -77,22 +67,23 @@ admit-other w = go (ltb limit (length w)) (utf8-cases w)
     go false (inl t) = rw (utf8-complete w t) tt
     go false (inr (k, e)) = rw e tt
 
-pub met-exactly-B : (w : List ℕ) → (checked (check-doctype appendix-B) w ≡ 20) ↔ (((k : ℕ) × (admit w ≡ ok k)) × Deep appendix-B w)
-unfolding checked
-met-exactly-B w = (go (admit w) refl (admit-other w), λ ((k, f), (i, all)). rw f (ap number-of (all too-deep)))
-  where
-    go : (a : Result) → admit w ≡ a → T (other a) → number-of (on-ok a (λ k. check-doctype appendix-B w)) ≡ 20 → ((k : ℕ) × (admit w ≡ ok k)) × Deep appendix-B w
-    go (ok k) f t e = ((k, f), met-exactly appendix-B w refl .0 (deep-err (limited appendix-B w too-deep) e))
-    go (err r j) f t e = absurd (not-20 (err r j) t e)
+module _ (D : Dialect) where
+  pub met-at-20 : (w : List ℕ) → (checked (check-doctype D) w ≡ 20) ↔ (((k : ℕ) × (admit w ≡ ok k)) × Deep D w)
+  unfolding checked check-doctype
+  met-at-20 w = (go (admit w) refl (admit-other w), λ ((k, f), (i, all)). rw f (ap number-of (all too-deep)))
+    where
+      go : (a : Result) → admit w ≡ a → T (other a) → number-of (on-ok a (λ k. check-doctype D w)) ≡ 20 → ((k : ℕ) × (admit w ≡ ok k)) × Deep D w
+      go (ok k) f t e = ((k, f), met-exactly D w .0 (deep-err (limited D w too-deep) e))
+      go (err r j) f t e = absurd (not-20 (err r j) t e)
 
-pub deeper-same-B : (w : List ℕ) → (checked (check-doctype appendix-B) w ≡ 20 → ⊥) → (n : ℕ) → 64 ≤ n → checked (check-doctype (with-groups appendix-B n)) w ≡ checked (check-doctype appendix-B) w
-unfolding checked
-deeper-same-B w z n h = go (admit w) z
-  where
-    go : (a : Result) → (number-of (on-ok a (λ k. check-doctype appendix-B w)) ≡ 20 → ⊥)
-        → number-of (on-ok a (λ k. check-doctype (with-groups appendix-B n) w)) ≡ number-of (on-ok a (λ k. check-doctype appendix-B w))
-    go (ok k) z =
-        let e : 64 + (n - 64) ≡ n = omega arith in
-        subst (λ (i : ℕ). number-of (check-doctype (with-groups appendix-B i) w) ≡ number-of (check-doctype appendix-B w)) e
-        (ap number-of (deeper-same appendix-B 64 (n - 64) w (λ k f. z (ap number-of f))))
-    go (err r j) z = refl
+  pub unmet-free : (w : List ℕ) → (checked (check-doctype D) w ≡ 20 → ⊥) → (n : ℕ) → D .groups ≤ n → checked (check-doctype (with-groups D n)) w ≡ checked (check-doctype D) w
+  unfolding checked
+  unmet-free w z n h = go (admit w) z
+    where
+      go : (a : Result) → (number-of (on-ok a (λ k. check-doctype D w)) ≡ 20 → ⊥)
+          → number-of (on-ok a (λ k. check-doctype (with-groups D n) w)) ≡ number-of (on-ok a (λ k. check-doctype D w))
+      go (ok k) z =
+          let e : D .groups + (n - D .groups) ≡ n = omega arith in
+          subst (λ (i : ℕ). number-of (check-doctype (with-groups D i) w) ≡ number-of (check-doctype D w)) e
+          (ap number-of (deeper-same D (D .groups) (n - D .groups) w (λ k f. z (ap number-of f))))
+      go (err r j) z = refl

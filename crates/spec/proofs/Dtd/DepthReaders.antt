@@ -12,12 +12,12 @@ use Rattle.spec.specs.Basics.{pick}
 use Rattle.spec.specs.Grammar.Characters.{xml-char}
 use Rattle.spec.specs.Grammar.Languages.{ascii, one-of, none-of}
 use Rattle.spec.specs.Grammar.Literals.{pubid-char}
-use Rattle.spec.specs.Grammar.Names.{Dialect, with-groups, with-beyond}
+use Rattle.spec.specs.Grammar.Names.{Dialect, with-groups}
 use Rattle.spec.specs.Grammar.References.{digit, hex-digit, value-on}
 use Rattle.spec.specs.Reading.Dtd
 use Rattle.spec.specs.Reading.Places.{Place, at, nowhere, outside}
-use Rattle.spec.specs.Reading.Readers.{Result, err, Reader, nothing, refuse, starts, run, begins, contains}
-use Rattle.spec.specs.Reading.Refusals.{Refusal, unterminated, too-deep}
+use Rattle.spec.specs.Reading.Readers.{Result, err, Reader, nothing, refuse, at-end, starts, run, begins, contains}
+use Rattle.spec.specs.Reading.Refusals.{Refusal, unterminated, trailing, too-deep}
 use Rattle.spec.specs.Reading.Wellformed
 use Rattle.spec.proofs.Base.Results.{both-pick}
 use Rattle.spec.proofs.Dtd.DepthAlike.{Alike, met, same, Like, alike-on, alike-test, _then_, like-nothing, like-byte, like-refuse, like-refuse-at, like-one, like-end, like-choose, like-on, like-word, like-while, like-throughout, like-required, like-char, like-up-to}
@@ -124,44 +124,41 @@ module _ {j : ℕ} {y : Refusal} where
 
 -- with names
 module _ (D : Dialect) (g j : ℕ) (larger : g ≡ D .groups + j) (y : Refusal) where
-  -- one limit, and one larger by j
-  abbrev low : Dialect
-  low = with-beyond D too-deep
-
+  -- a limit larger by j
   abbrev high : Dialect
-  high = with-beyond (with-groups D g) y
+  high = with-groups D g
 
-  parts : Like j y (Wellformed.parts low) (Wellformed.parts high)
+  parts : Like j y (Wellformed.parts D) (Wellformed.parts high)
   unfolding Wellformed.parts
   parts = like-while _ (like-char (D .part) _ tt)
 
-  name : Like j y (Wellformed.name low) (Wellformed.name high)
+  name : Like j y (Wellformed.name D) (Wellformed.name high)
   unfolding Wellformed.name
   name = like-char (D .start) _ tt then parts
 
-  ncname : Like j y (Dtd.ncname low) (Dtd.ncname high)
+  ncname : Like j y (Dtd.ncname D) (Dtd.ncname high)
   unfolding Dtd.ncname
   ncname = record { it = λ w. alike-on (name .it w) (λ k. both-pick (Alike j y) (contains (ascii ":") (take k w)) (same refl tt) (same refl tt)) }
 
-  pe-reference : Like j y (Dtd.parse-pe-reference low) (Dtd.parse-pe-reference high)
+  pe-reference : Like j y (Dtd.parse-pe-reference D) (Dtd.parse-pe-reference high)
   unfolding Dtd.parse-pe-reference
   pe-reference = like-word "%" _ tt then name then like-word ";" _ tt
 
-  same-references : (w : List ℕ) → Dtd.has-pe-reference low w ≡ Dtd.has-pe-reference high w
+  same-references : (w : List ℕ) → Dtd.has-pe-reference D w ≡ Dtd.has-pe-reference high w
   unfolding Dtd.has-pe-reference
   same-references [] = refl
   same-references (b ∷ w) = ap (λ (t : Bool). (one-of "%" b && begins (D .start) w) || t) (same-references w)
 
-  pi : Like j y (Dtd.parse-pi low) (Dtd.parse-pi high)
+  pi : Like j y (Dtd.parse-pi D) (Dtd.parse-pi high)
   unfolding Dtd.parse-pi Dtd.check-pi Dtd.check-target Wellformed.check-name
   pi = like-word "<?" _ tt then like-up-to "?>" _ tt (record { it = λ w. target (take (run (none-of " \t\r\n") w) w) })
     where
-      target : (t : List ℕ) → Alike j y (Dtd.check-target low t) (Dtd.check-target high t)
+      target : (t : List ℕ) → Alike j y (Dtd.check-target D t) (Dtd.check-target high t)
       target t =
           alike-on ((name then like-end _ tt) .it t)
           (λ _. both-pick (Alike j y) (contains (ascii ":") t) (same refl tt) (both-pick (Alike j y) (Dtd.reserved t) (same refl tt) (same refl tt)))
 
-  mixed : Like j y (Dtd.parse-mixed low) (Dtd.parse-mixed high)
+  mixed : Like j y (Dtd.parse-mixed D) (Dtd.parse-mixed high)
   unfolding Dtd.parse-mixed
   mixed =
       like-word "(" _ tt then spaces then like-word "#PCDATA" _ tt then spaces
@@ -169,13 +166,13 @@ module _ (D : Dialect) (g j : ℕ) (larger : g ≡ D .groups + j) (y : Refusal) 
       (like-word ")" _ tt then like-on "*" (like-word "*" _ tt) like-nothing)
 
   -- one group too many under the limit; and under the larger one, if they are the same
-  group : (h i : ℕ) → i ≡ h + j → Like j y (Dtd.parse-group low h) (Dtd.parse-group high i)
+  group : (h i : ℕ) → i ≡ h + j → Like j y (Dtd.parse-group D too-deep h) (Dtd.parse-group high y i)
   unfolding Dtd.parse-group Dtd.cp-of refuse
-  group zero i e = record { it = λ w. met 0 refl (λ z. let n : 0 ≡ i = omega arith in subst (λ (k : ℕ). Dtd.parse-group high k w ≡ err y 0) n refl) }
+  group zero i e = record { it = λ w. met 0 refl (λ z. let n : 0 ≡ i = omega arith in subst (λ (k : ℕ). Dtd.parse-group high y k w ≡ err y 0) n refl) }
   group (suc h) zero e = absurd (omega arith)
   group (suc h) (suc i) e = group-of (like-on "(" (group h i (omega arith)) name then occurs)
 
-  element-decl : Like j y (Dtd.parse-element-decl low) (Dtd.parse-element-decl high)
+  element-decl : Like j y (Dtd.parse-element-decl D too-deep) (Dtd.parse-element-decl high y)
   unfolding Dtd.parse-element-decl Dtd.parse-contentspec Dtd.parse-children
   element-decl =
       some-space then name then some-space
@@ -183,7 +180,7 @@ module _ (D : Dialect) (g j : ℕ) (larger : g ≡ D .groups + j) (y : Refusal) 
       (like-choose _ mixed (like-on "(" (group (D .groups) g larger then occurs) (like-refuse _ tt))))
       then spaces then like-end _ tt
 
-  attlist-decl : Like j y (Dtd.parse-attlist-decl low) (Dtd.parse-attlist-decl high)
+  attlist-decl : Like j y (Dtd.parse-attlist-decl D) (Dtd.parse-attlist-decl high)
   unfolding Dtd.parse-attlist-decl Dtd.parse-att-def Dtd.parse-att-type Dtd.nmtoken
   attlist-decl =
       some-space then name
@@ -193,7 +190,7 @@ module _ (D : Dialect) (g j : ℕ) (larger : g ≡ D .groups + j) (y : Refusal) 
       then some-space then default-decl)
       then spaces
 
-  entity-decl : Like j y (Dtd.parse-entity-decl low) (Dtd.parse-entity-decl high)
+  entity-decl : Like j y (Dtd.parse-entity-decl D) (Dtd.parse-entity-decl high)
   unfolding Dtd.parse-entity-decl Dtd.ndata
   entity-decl =
       some-space
@@ -202,7 +199,7 @@ module _ (D : Dialect) (g j : ℕ) (larger : g ≡ D .groups + j) (y : Refusal) 
       then on-quote (quoted references) (external then like-choose _ (some-space then like-word "NDATA" _ tt then some-space then name) like-nothing))
       then spaces then like-end _ tt
 
-  notation-decl : Like j y (Dtd.parse-notation-decl low) (Dtd.parse-notation-decl high)
+  notation-decl : Like j y (Dtd.parse-notation-decl D) (Dtd.parse-notation-decl high)
   unfolding Dtd.parse-notation-decl
   notation-decl =
       some-space then ncname then some-space
@@ -210,16 +207,16 @@ module _ (D : Dialect) (g j : ℕ) (larger : g ≡ D .groups + j) (y : Refusal) 
       (like-word "PUBLIC" _ tt then some-space then quoted pubid then second-literal)
       then spaces then like-end _ tt
 
-  finish : (b : Bool) {r q : Reader} → Like j y r q → Like j y (Dtd.finish-decl low b r) (Dtd.finish-decl high b q)
+  finish : (b : Bool) {r q : Reader} → Like j y r q → Like j y (Dtd.finish-decl D b r) (Dtd.finish-decl high b q)
   unfolding Dtd.finish-decl
   finish b {r} {q} a = record { it = λ w. alike-on (decl-body w) (λ k. alike-on (body (take k w)) (λ _. same refl tt)) }
     where
-      body : (x : List ℕ) → Alike j y (pick (b || Dtd.has-pe-reference low x) nothing r x) (pick (b || Dtd.has-pe-reference high x) nothing q x)
+      body : (x : List ℕ) → Alike j y (pick (b || Dtd.has-pe-reference D x) nothing r x) (pick (b || Dtd.has-pe-reference high x) nothing q x)
       body x =
-          subst (λ (t : Bool). Alike j y (pick (b || Dtd.has-pe-reference low x) nothing r x) (pick (b || t) nothing q x)) (same-references x)
-          (both-pick (Like j y) (b || Dtd.has-pe-reference low x) like-nothing a .it x)
+          subst (λ (t : Bool). Alike j y (pick (b || Dtd.has-pe-reference D x) nothing r x) (pick (b || t) nothing q x)) (same-references x)
+          (both-pick (Like j y) (b || Dtd.has-pe-reference D x) like-nothing a .it x)
 
-  markup-decl : (b : Bool) → Like j y (Dtd.parse-markup-decl low b) (Dtd.parse-markup-decl high b)
+  markup-decl : (b : Bool) → Like j y (Dtd.parse-markup-decl D too-deep b) (Dtd.parse-markup-decl high y b)
   unfolding Dtd.parse-markup-decl
   markup-decl b =
       like-on "<?" pi (like-on "<!--" comment (like-on "<![" (like-refuse _ tt)
@@ -228,7 +225,7 @@ module _ (D : Dialect) (g j : ℕ) (larger : g ≡ D .groups + j) (y : Refusal) 
       (like-on "<!ENTITY" (like-word "<!ENTITY" _ tt then finish b entity-decl)
       (like-word "<!NOTATION" _ tt then finish b notation-decl))))))
 
-  subset : (d : ℕ) (b : Bool) → Like j y (Dtd.subset-fuel low d b) (Dtd.subset-fuel high d b)
+  subset : (d : ℕ) (b : Bool) → Like j y (Dtd.subset-fuel D too-deep d b) (Dtd.subset-fuel high y d b)
   unfolding Dtd.subset-fuel
   subset zero b = record { it = λ w. same refl tt }
   subset (suc d) b =
@@ -241,7 +238,7 @@ module _ (D : Dialect) (g j : ℕ) (larger : g ≡ D .groups + j) (y : Refusal) 
             (like-end _ tt then like-refuse _ tt)))) .it;
       }
 
-  pub doctype : Like j y (Dtd.check-doctype low) (Dtd.check-doctype high)
+  pub doctype : Like j y (Dtd.check-doctype D) (Dtd.doctype-before high y (at-end trailing))
   unfolding Dtd.check-doctype Dtd.doctype-before Dtd.parse-internal-subset
   doctype =
       spaces then name then spaces

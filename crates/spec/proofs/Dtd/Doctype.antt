@@ -17,7 +17,7 @@ use Rattle.spec.specs.Grammar.Names.{Dialect, Name, AsciiNames}
 use Rattle.spec.specs.Reading.Document.{read-doctype-text}
 use Rattle.spec.specs.Reading.Dtd.{skip-s, parse-external-id, parse-markup-decl, parse-internal-subset, doctype-before, check-doctype}
 use Rattle.spec.specs.Reading.Readers.{ok, Reader, _>>_, nothing, starts, choose, on, word, while, begins, char}
-use Rattle.spec.specs.Reading.Refusals.{bad-name, unexpected, trailing}
+use Rattle.spec.specs.Reading.Refusals.{bad-name, unexpected, trailing, too-deep}
 use Rattle.spec.specs.Reading.Utf8.{decode1}
 use Rattle.spec.specs.Reading.Wellformed.{parts, name}
 use Rattle.spec.proofs.Agreement.Algebra.{ε, same, _then_, cat₂, either, assoc, none-after, over-left, over-right, none-before, plus-or-none, back, cat, swap, regroup}
@@ -50,7 +50,7 @@ module _ (D : Dialect) where
 abbrev ending : Class
 ending k = one-of ">" k || eqb k 129
 
-module _ (D : Dialect) (A : AsciiNames D) (M : Bool → Lang) (reads-markup : (pe : Bool) → Reads (parse-markup-decl D pe) (M pe) (Next any) (first-of "<")) where
+module _ (D : Dialect) (A : AsciiNames D) (M : Bool → Lang) (reads-markup : (pe : Bool) → Reads (parse-markup-decl D too-deep pe) (M pe) (Next any) (first-of "<")) where
   -- what stands after the name, as it is read and as it is written
   abbrev In-brackets : Lang
   In-brackets = lit "[" · (Written D M · lit "]") · S?
@@ -93,7 +93,7 @@ module _ (D : Dialect) (A : AsciiNames D) (M : Bool → Lang) (reads-markup : (p
     Tail-end = Opt (S · ExternalID) · S? · Bracketed-end
 
     abbrev tail-reader : Reader
-    tail-reader = skip-s >> choose (λ w. starts (ascii "SYSTEM") w || starts (ascii "PUBLIC") w) (parse-external-id >> skip-s) nothing >> on "[" (word "[" unexpected >> parse-internal-subset D >> skip-s) nothing >> ender
+    tail-reader = skip-s >> choose (λ w. starts (ascii "SYSTEM") w || starts (ascii "PUBLIC") w) (parse-external-id >> skip-s) nothing >> on "[" (word "[" unexpected >> parse-internal-subset D too-deep >> skip-s) nothing >> ender
 
     raw-reads : Reads tail-reader Raw F tail-first
     unfolding ExternalID
@@ -170,7 +170,7 @@ module _ (D : Dialect) (A : AsciiNames D) (M : Bool → Lang) (reads-markup : (p
         let t : Took Raw k w = raw-reads .sound w k tw e in
         record { taken = t .taken; rest = t .rest; split = t .split; size = t .size; holds = tail-of (t .taken) (t .rest) (ap (begins (D .part)) (sym (t .split)) ∙ n) (t .holds); left = t .left }
 
-    pub text-reads : Reads (doctype-before D ender) (S? · Name D · Tail-end) F any
+    pub text-reads : Reads (doctype-before D too-deep ender) (S? · Name D · Tail-end) F any
     unfolding doctype-before
     text-reads = record {
       sound = sound-seq skip-s _ S? (Name D · Tail-end) (skip not-space sub-refl .sound)

@@ -13,7 +13,7 @@ use Rattle.spec.specs.Grammar.Names.{Dialect, AsciiNames}
 use Rattle.spec.specs.Reading.Document.{read-doctype-text}
 use Rattle.spec.specs.Reading.Dtd.{parse-element-decl, finish-decl, parse-markup-decl, check-doctype}
 use Rattle.spec.specs.Reading.Readers.{Reader, _>>_, starts, on, word}
-use Rattle.spec.specs.Reading.Refusals.{unexpected, trailing}
+use Rattle.spec.specs.Reading.Refusals.{unexpected, trailing, too-deep}
 use Rattle.spec.proofs.Agreement.Algebra.{either, same, no-first, regroup, swap, back, _then_}
 use Rattle.spec.proofs.Agreement.Choices.{refuse-reads}
 use Rattle.spec.proofs.Agreement.Reads.{Reads, Next, seq, alt, weaken, as-lang, _≅_}
@@ -45,7 +45,7 @@ never-either s a b u v (inl l) = a u v l
 never-either s a b u v (inr m) = b u v m
 
 module _ (D : Dialect) (A : AsciiNames D) where
-  element-whole : Whole (parse-element-decl D) (element-body D)
+  element-whole : Whole (parse-element-decl D too-deep) (element-body D)
   unfolding parse-element-decl
   element-whole = whole (element-reads D A) (ends-seq _ _ (ends-seq _ _ (ends-seq _ _ (ends-seq _ _ (ends-seq _ _ (ends-at-end trailing))))))
 
@@ -59,7 +59,7 @@ module _ (D : Dialect) (A : AsciiNames D) where
   in-order : {a b c d p q : Lang} → (p ∣ q ∣ (λ w. ⊥) ∣ a ∣ b ∣ c ∣ d) ≅ (a ∣ b ∣ c ∣ d ∣ p ∣ q)
   in-order = either same (either same no-first) then regroup then swap then back regroup then either same (back regroup then either same (back regroup))
 
-  markup-read : (pe : Bool) → Reads (parse-markup-decl D pe) (Read-markup pe) (Next any) (first-of "<")
+  markup-read : (pe : Bool) → Reads (parse-markup-decl D too-deep pe) (Read-markup pe) (Next any) (first-of "<")
   unfolding parse-markup-decl on PI Comment
   markup-read pe =
       weaken sub-refl (by-signs tt)
@@ -73,7 +73,7 @@ module _ (D : Dialect) (A : AsciiNames D) where
       one : (s : String) → T (plain (ascii s)) → {body : Reader} {B : Lang} → Whole body B → Within B → Reads (word s unexpected >> finish-decl D pe body) (Decl pe s B) (Next any) (first-of s)
       one s h w i = seq (wd s unexpected h) sub-any (finish-reads D pe w (λ u b. tame-delimited (i u b)))
 
-  pub markup-reads : (pe : Bool) → Reads (parse-markup-decl D pe) (markupdecl D pe) (Next any) (first-of "<")
+  pub markup-reads : (pe : Bool) → Reads (parse-markup-decl D too-deep pe) (markupdecl D pe) (Next any) (first-of "<")
   unfolding markupdecl
   markup-reads pe = as-lang in-order (markup-read pe)
 

@@ -11,7 +11,7 @@ use Rattle.spec.specs.Grammar.Languages.{Lang, lit, ascii, _·_, _∣_, 
 use Rattle.spec.specs.Grammar.Names.{Dialect, PEReference, AsciiNames}
 use Rattle.spec.specs.Reading.Dtd.{skip-s, parse-pe-reference, parse-markup-decl, subset-fuel, parse-internal-subset}
 use Rattle.spec.specs.Reading.Readers.{ok, Reader, _>>_, refuse, at-end, starts, choose, on, word}
-use Rattle.spec.specs.Reading.Refusals.{unterminated, unexpected}
+use Rattle.spec.specs.Reading.Refusals.{unterminated, unexpected, too-deep}
 use Rattle.spec.proofs.Agreement.Algebra.{ε, cat, same}
 use Rattle.spec.proofs.Agreement.Choices.{refuse-reads}
 use Rattle.spec.proofs.Agreement.Reads.{Sound, Complete, Leads, Reads, Next, sound-seq, complete-seq, seq, as-lang, weaken, took-as, sound-choose, _≅_}
@@ -86,7 +86,7 @@ module _ (D : Dialect) (A : AsciiNames D) where
   unfolding parse-pe-reference PEReference
   pe-reads = seq (wd "%" unexpected tt) sub-any (seq (weaken (by-signs tt) sub-refl (name-reads D A)) sub-refl (wd ";" unexpected tt))
 
-module _ (D : Dialect) (A : AsciiNames D) (M : Bool → Lang) (reads-markup : (pe : Bool) → Reads (parse-markup-decl D pe) (M pe) (Next any) (first-of "<")) where
+module _ (D : Dialect) (A : AsciiNames D) (M : Bool → Lang) (reads-markup : (pe : Bool) → Reads (parse-markup-decl D too-deep pe) (M pe) (Next any) (first-of "<")) where
   -- what is left of a subset, up to its ']', as it is read
   abbrev Closed : Bool → Lang
   Closed pe = Items D M pe · lit "]"
@@ -112,7 +112,7 @@ module _ (D : Dialect) (A : AsciiNames D) (M : Bool → Lang) (reads-markup : (p
       go x q e s (inr (inr (inl l))) = onto x (l .left) (l .right) (e ∙ ap (λ (z : List ℕ). x ++ z) (l .split)) s (declare (l .first)) (l .second)
       go x q e s (inr (inr (inr z))) = absurd z
 
-  subset-sound : (d : ℕ) (pe : Bool) → Sound (subset-fuel D d pe) (Closed pe)
+  subset-sound : (d : ℕ) (pe : Bool) → Sound (subset-fuel D too-deep d pe) (Closed pe)
   unfolding subset-fuel on refuse
   subset-sound zero pe w k tw e = absurd (err-ok unterminated k e)
   subset-sound (suc d) pe w k tw e = go (subset-sound d) w k tw e
@@ -120,7 +120,7 @@ module _ (D : Dialect) (A : AsciiNames D) (M : Bool → Lang) (reads-markup : (p
       never : Sound (at-end unexpected >> refuse unterminated) (λ w. ⊥)
       never w k tw e = took-as (λ u c. c .second) refl (sound-seq (at-end unexpected) (refuse unterminated) ε (λ w. ⊥) (at-end-reads unexpected .sound) (refuse-reads {F = ε} unterminated any .sound) w k tw e)
 
-      go : ((b : Bool) → Sound (subset-fuel D d b) (Closed b)) → Sound (subset-fuel D (suc d) pe) (Closed pe)
+      go : ((b : Bool) → Sound (subset-fuel D too-deep d b) (Closed b)) → Sound (subset-fuel D too-deep (suc d) pe) (Closed pe)
       go ih w k tw e =
           took-as (items pe) refl
           (sound-seq skip-s _ S? (Item pe) (skip not-space sub-refl .sound)
@@ -132,9 +132,9 @@ module _ (D : Dialect) (A : AsciiNames D) (M : Bool → Lang) (reads-markup : (p
   rest-reader : ℕ → Bool → Reader
   rest-reader d pe =
       on "]" (word "]" unexpected)
-      (on "%" (parse-pe-reference D >> λ x. subset-fuel D d true x) (on "<" (parse-markup-decl D pe >> λ x. subset-fuel D d pe x) (at-end unexpected >> refuse unterminated)))
+      (on "%" (parse-pe-reference D >> λ x. subset-fuel D too-deep d true x) (on "<" (parse-markup-decl D too-deep pe >> λ x. subset-fuel D too-deep d pe x) (at-end unexpected >> refuse unterminated)))
 
-  step : (d : ℕ) (pe : Bool) (K : Lang) (f : Class) → Sub f not-space → Leads K (Next any) f → Complete (rest-reader d pe) K (Next any) → (w v : List ℕ) → (S? · K) w → subset-fuel D (suc d) pe (w ++ v) ≡ ok (length w)
+  step : (d : ℕ) (pe : Bool) (K : Lang) (f : Class) → Sub f not-space → Leads K (Next any) f → Complete (rest-reader d pe) K (Next any) → (w v : List ℕ) → (S? · K) w → subset-fuel D too-deep (suc d) pe (w ++ v) ≡ ok (length w)
   unfolding subset-fuel rest-reader
   step d pe K f h lead c w v k =
       complete-seq skip-s (rest-reader d pe) S? K (Next f) (Next any) (skip f h .complete) c (λ u v m t. record { it = lead u v m t }) w v k (record { it = tt })
@@ -157,17 +157,17 @@ module _ (D : Dialect) (A : AsciiNames D) (M : Bool → Lang) (reads-markup : (p
   close-complete d pe u v e t = rw (starts-sign 93 (u ++ v) (omega arith) (wd "]" unexpected tt .leads u v e t)) (wd "]" unexpected tt .complete u v e t)
 
   -- an entry, and then z, which is read on from there
-  module _ (d : ℕ) (after : Bool) (z : List ℕ) (ih : (v : List ℕ) → subset-fuel D d after (z ++ v) ≡ ok (length z)) where
-    then-rest : (r : Reader) (L : Lang) → Complete r L (Next any) → Complete (r >> λ x. subset-fuel D d after x) (L · (λ q. q ≡ z)) (Next any)
+  module _ (d : ℕ) (after : Bool) (z : List ℕ) (ih : (v : List ℕ) → subset-fuel D too-deep d after (z ++ v) ≡ ok (length z)) where
+    then-rest : (r : Reader) (L : Lang) → Complete r L (Next any) → Complete (r >> λ x. subset-fuel D too-deep d after x) (L · (λ q. q ≡ z)) (Next any)
     then-rest r L c =
-        complete-seq r (λ x. subset-fuel D d after x) L (λ q. q ≡ z) (Next any) (Next any) c
-        (λ q v e t. ap (λ (y : List ℕ). subset-fuel D d after (y ++ v)) e ∙ ih v ∙ ap (λ (y : List ℕ). ok (length y)) (sym e)) (λ u v m t. record { it = tt })
+        complete-seq r (λ x. subset-fuel D too-deep d after x) L (λ q. q ≡ z) (Next any) (Next any) c
+        (λ q v e t. ap (λ (y : List ℕ). subset-fuel D too-deep d after (y ++ v)) e ∙ ih v ∙ ap (λ (y : List ℕ). ok (length y)) (sym e)) (λ u v m t. record { it = tt })
 
-  entry-complete : (d : ℕ) {pe after : Bool} (z : List ℕ) → ((v : List ℕ) → subset-fuel D d after (z ++ v) ≡ ok (length z)) → (u v : List ℕ) (l : (Entry D M pe after · (λ q. q ≡ z)) u) → rest-reader d pe (u ++ v) ≡ ok (length u)
+  entry-complete : (d : ℕ) {pe after : Bool} (z : List ℕ) → ((v : List ℕ) → subset-fuel D too-deep d after (z ++ v) ≡ ok (length z)) → (u v : List ℕ) (l : (Entry D M pe after · (λ q. q ≡ z)) u) → rest-reader d pe (u ++ v) ≡ ok (length u)
   unfolding rest-reader on choose
   entry-complete d {pe} {after} z ih u v l = go (l .left) (l .right) (l .split) (l .second) (l .first) ih
     where
-      go : {n : Bool} (x y : List ℕ) → u ≡ x ++ y → y ≡ z → Entry D M pe n x → ((v : List ℕ) → subset-fuel D d n (z ++ v) ≡ ok (length z)) → rest-reader d pe (u ++ v) ≡ ok (length u)
+      go : {n : Bool} (x y : List ℕ) → u ≡ x ++ y → y ≡ z → Entry D M pe n x → ((v : List ℕ) → subset-fuel D too-deep d n (z ++ v) ≡ ok (length z)) → rest-reader d pe (u ++ v) ≡ ok (length u)
       go x y e f (refer p) ih =
           let lead : T (first-of "%" (kind (u ++ v))) = rw (e, append-assoc x y v) (pe-reads D A .leads x (y ++ v) p (record { it = tt })) in
           rw (starts-clash (ascii "]") [] (first-of "%") (u ++ v) tt lead, starts-sign 37 (u ++ v) (omega arith) lead)
@@ -175,9 +175,9 @@ module _ (D : Dialect) (A : AsciiNames D) (M : Bool → Lang) (reads-markup : (p
       go x y e f (declare m) ih =
           let lead : T (first-of "<" (kind (u ++ v))) = rw (e, append-assoc x y v) (reads-markup pe .leads x (y ++ v) m (record { it = tt })) in
           rw (starts-clash (ascii "]") [] (first-of "<") (u ++ v) tt lead, starts-clash (ascii "%") [] (first-of "<") (u ++ v) tt lead, starts-sign 60 (u ++ v) (omega arith) lead)
-          (then-rest d pe z ih (parse-markup-decl D pe) (M pe) (reads-markup pe .complete) u v (record { left = x; right = y; split = e; first = m; second = f }) (record { it = tt }))
+          (then-rest d pe z ih (parse-markup-decl D too-deep pe) (M pe) (reads-markup pe .complete) u v (record { left = x; right = y; split = e; first = m; second = f }) (record { it = tt }))
 
-  subset-complete : (d : ℕ) {pe : Bool} {w : List ℕ} → Items D M pe w → length w < d → (v : List ℕ) → subset-fuel D d pe ((w ++ ascii "]") ++ v) ≡ ok (length (w ++ ascii "]"))
+  subset-complete : (d : ℕ) {pe : Bool} {w : List ℕ} → Items D M pe w → length w < d → (v : List ℕ) → subset-fuel D too-deep d pe ((w ++ ascii "]") ++ v) ≡ ok (length (w ++ ascii "]"))
   subset-complete zero {w = w} i h v = absurd (omega arith)
   subset-complete (suc d) {pe} {w} (last b) h v =
       step d pe (lit "]") (first-of "]") (by-signs tt) (wd "]" unexpected tt .leads) (close-complete d pe) (w ++ ascii "]") v (record { left = w; right = ascii "]"; split = refl; first = b; second = refl })
@@ -195,16 +195,16 @@ module _ (D : Dialect) (A : AsciiNames D) (M : Bool → Lang) (reads-markup : (p
         second = record { left = y; right = z ++ ascii "]"; split = refl; first = p; second = refl };
       })
 
-  items-read : Reads (parse-internal-subset D) (Closed false) (Next any) any
+  items-read : Reads (parse-internal-subset D too-deep) (Closed false) (Next any) any
   unfolding parse-internal-subset
   items-read = record {
     sound = λ w k tw e. subset-sound (suc (length w)) false w k tw e;
     complete = λ u v c t.
         let f : u ≡ c .left ++ ascii "]" = c .split ∙ ap (λ (q : List ℕ). c .left ++ q) (c .second) in
-        subst (λ (q : List ℕ). subset-fuel D (suc (length (u ++ v))) false (q ++ v) ≡ ok (length q)) (sym f)
+        subst (λ (q : List ℕ). subset-fuel D too-deep (suc (length (u ++ v))) false (q ++ v) ≡ ok (length q)) (sym f)
         (subset-complete (suc (length (u ++ v))) (c .first) (omega (arith, length-append u v, cat-size c)) v);
     leads = λ u v i t. tt;
   }
 
-  pub subset-reads : Reads (parse-internal-subset D) (Written D M · lit "]") (Next any) any
+  pub subset-reads : Reads (parse-internal-subset D too-deep) (Written D M · lit "]") (Next any) any
   subset-reads = as-lang (cat (written D M) same) items-read

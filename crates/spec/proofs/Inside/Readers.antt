@@ -18,7 +18,7 @@ use Rattle.spec.specs.Reading.Dtd
 use Rattle.spec.specs.Reading.Entries.{one-entry}
 use Rattle.spec.specs.Reading.Places.{Place, at, nowhere, outside}
 use Rattle.spec.specs.Reading.Readers.{Result, ok, err, Reader, stop-of, on-ok, nothing, starts, run, contains, before}
-use Rattle.spec.specs.Reading.Refusals.{has-colon, reserved-target, unterminated, bad-pubid, bad-reference, illegal-reference}
+use Rattle.spec.specs.Reading.Refusals.{has-colon, reserved-target, unterminated, bad-pubid, bad-reference, illegal-reference, too-deep}
 use Rattle.spec.specs.Reading.Wellformed
 use Rattle.spec.proofs.Agreement.Words.{starts-within}
 use Rattle.spec.proofs.Base.Outside.{outside-within}
@@ -195,12 +195,12 @@ module _ (D : Dialect) where
       then in-on "|" (after "|" name then in-while _ (after "|" name) then in-word ")" _ then in-word "*" _)
       (in-word ")" _ then in-on "*" (in-word "*" _) in-nothing)
 
-  group : (h : ℕ) → Inside (Dtd.parse-group D h)
+  group : (h : ℕ) → Inside (Dtd.parse-group D too-deep h)
   unfolding Dtd.parse-group Dtd.cp-of
   group zero = in-refuse _
   group (suc h) = group-of (in-on "(" (group h) name then occurs)
 
-  element-decl : Inside (Dtd.parse-element-decl D)
+  element-decl : Inside (Dtd.parse-element-decl D too-deep)
   unfolding Dtd.parse-element-decl Dtd.parse-contentspec Dtd.parse-children
   element-decl =
       some-space then name then some-space
@@ -244,7 +244,7 @@ module _ (D : Dialect) where
         (λ j g. let z = body-within k w f in omega arith));
   }
 
-  markup-decl : (b : Bool) → Inside (Dtd.parse-markup-decl D b)
+  markup-decl : (b : Bool) → Inside (Dtd.parse-markup-decl D too-deep b)
   unfolding Dtd.parse-markup-decl
   markup-decl b =
       in-on "<?" pi (in-on "<!--" comment (in-on "<![" (in-refuse _)
@@ -256,7 +256,7 @@ module _ (D : Dialect) where
   pub in-entry : Inside (one-entry D)
   in-entry = in-on "%" pe-reference (markup-decl true)
 
-  subset : (d : ℕ) (b : Bool) → Inside (Dtd.subset-fuel D d b)
+  subset : (d : ℕ) (b : Bool) → Inside (Dtd.subset-fuel D too-deep d b)
   unfolding Dtd.subset-fuel
   subset zero b = record { inside = λ w. omega arith }
   subset (suc d) b =
@@ -270,7 +270,7 @@ module _ (D : Dialect) where
       }
 
   -- a DOCTYPE's text, whatever ends it
-  pub in-before : {end : Reader} → Inside end → Inside (Dtd.doctype-before D end)
+  pub in-before : {end : Reader} → Inside end → Inside (Dtd.doctype-before D too-deep end)
   unfolding Dtd.doctype-before Dtd.parse-internal-subset
   in-before a =
       spaces then name then spaces

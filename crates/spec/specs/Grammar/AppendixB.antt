@@ -1,13 +1,11 @@
 -- The name classes of Appendix B of XML 1.0's earlier editions: each class a table of range ends, first and last in turn, ascending.
 -- Departure: the fifth edition's [4] and [4a] have more characters. Assumes nothing.
-use mathlib.Core.Bool.{Bool, true, false, _&&_, _||_}
+use mathlib.Core.Bool.{Bool, _||_}
 use mathlib.Core.List.{List, [], _∷_}
 use Prim.Native.Nat.{ℕ}
-use lib.Dec.{leb, ltb}
-use Rattle.spec.specs.Basics.{within}
 use Rattle.spec.specs.Grammar.Languages.{one-of}
 use Rattle.spec.specs.Grammar.Names.{Dialect}
-use Rattle.spec.specs.Reading.Refusals.{too-deep}
+use Rattle.spec.specs.Grammar.Ranges.{in-table}
 
 -- [85] BaseChar
 abbrev pub base-chars : List ℕ
@@ -73,19 +71,6 @@ extenders =
     0xB7 ∷ 0xB7 ∷ 0x2D0 ∷ 0x2D0 ∷ 0x2D1 ∷ 0x2D1 ∷ 0x387 ∷ 0x387 ∷ 0x640 ∷ 0x640 ∷ 0xE46 ∷ 0xE46 ∷ 0xEC6 ∷ 0xEC6 ∷ 0x3005 ∷ 0x3005 ∷
     0x3031 ∷ 0x3035 ∷ 0x309D ∷ 0x309E ∷ 0x30FC ∷ 0x30FE ∷ []
 
--- the number stands in a range of the table
-unfoldable pub in-table : List ℕ → ℕ → Bool
-in-table [] c = false
-in-table (lo ∷ []) c = false
-in-table (lo ∷ hi ∷ rest) c = within lo hi c || in-table rest c
-
--- each range ends at or after its start, and the next one begins after that: the rule of a table, by one computed test
-unfoldable pub ascending : List ℕ → Bool
-ascending [] = true
-ascending (lo ∷ []) = false
-ascending (lo ∷ hi ∷ []) = leb lo hi
-ascending (lo ∷ hi ∷ next ∷ rest) = leb lo hi && ltb hi next && ascending (next ∷ rest)
-
 -- [84] Letter ::= BaseChar | Ideographic, and '_' and ':', begin a name ([5] of those editions)
 unfoldable pub start-char : ℕ → Bool
 start-char c = one-of ":_" c || in-table base-chars c || in-table ideographs c
@@ -94,6 +79,6 @@ start-char c = one-of ":_" c || in-table base-chars c || in-table ideographs c
 unfoldable pub part-char : ℕ → Bool
 part-char c = start-char c || one-of "-." c || in-table digits c || in-table combining c || in-table extenders c
 
--- with at most 64 open groups, and 20 for a 65th
+-- with at most 64 open groups
 abbrev pub appendix-B : Dialect
-appendix-B = record { start = start-char; part = part-char; groups = 64; beyond = too-deep }
+appendix-B = record { start = start-char; part = part-char; groups = 64 }

@@ -5,26 +5,20 @@ use Prim.Native.Nat.{ℕ, _<_}
 use Rattle.spec.specs.Grammar.Languages.{Lang, lit, Ch, _·_, _∖_, Star, Plus, one-of}
 use Rattle.spec.specs.Grammar.Characters.{latin-letter, Text}
 use Rattle.spec.specs.Grammar.References.{digit}
-use Rattle.spec.specs.Reading.Refusals.{Refusal}
 
--- What the grammar and the order of reading leave open: the characters that begin a name ([4] NameStartChar) and that go on with
--- it ([4a] NameChar); and, added, how many groups of a content model may be open at one time, and what the order of reading refuses
--- one more with. That refusal is left open so that a theorem can say when it is met: exactly when, whatever it is, it is the answer.
+-- What the grammar leaves open: the characters that begin a name ([4] NameStartChar) and that go on with it ([4a] NameChar); and, added,
+-- how many groups of a content model may be open at one time.
 pub record Dialect : Type 0 where
   pub start : ℕ → Bool
   pub part : ℕ → Bool
   pub groups : ℕ
-  pub beyond : Refusal
 
--- the same with other classes, with another limit, and with another refusal
+-- the same with other classes, and with another limit
 abbrev pub with-classes : Dialect → (ℕ → Bool) → (ℕ → Bool) → Dialect
-with-classes D p q = record { start = p; part = q; groups = D .groups; beyond = D .beyond }
+with-classes D p q = record { start = p; part = q; groups = D .groups }
 
 abbrev pub with-groups : Dialect → ℕ → Dialect
-with-groups D n = record { start = D .start; part = D .part; groups = n; beyond = D .beyond }
-
-abbrev pub with-beyond : Dialect → Refusal → Dialect
-with-beyond D r = record { start = D .start; part = D .part; groups = D .groups; beyond = r }
+with-groups D n = record { start = D .start; part = D .part; groups = n }
 
 -- XML's name characters below 128, the same in every edition: those of [4] NameStartChar, and those of [4a] NameChar
 abbrev pub start-sign : ℕ → Bool

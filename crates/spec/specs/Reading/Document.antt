@@ -12,7 +12,7 @@ use Rattle.spec.specs.Grammar.Prolog.{Doctype-text, no-doctype, from-to}
 use Rattle.spec.specs.Reading.Checks.{check-declaration}
 use Rattle.spec.specs.Reading.Dtd.{skip-s, parse-comment, parse-pi, doctype-before}
 use Rattle.spec.specs.Reading.Readers.{Result, ok, err, Reader, taken, on-ok, _>>_, nothing, refuse, some-left, starts, choose, on, word, while, begins, char, contains, up-to}
-use Rattle.spec.specs.Reading.Refusals.{Refusal, number, too-long, unterminated, unexpected, trailing, illegal-char, out-of-order}
+use Rattle.spec.specs.Reading.Refusals.{Refusal, number, too-long, unterminated, unexpected, trailing, illegal-char, out-of-order, too-deep}
 use Rattle.spec.specs.Reading.Wellformed.{name}
 
 -- what r takes, if it is at most n bytes, or a refusal where it begins
@@ -53,7 +53,7 @@ module _ (D : Dialect) where
 
   -- what stands between '<!DOCTYPE' and '>', and the '>'
   unfoldable pub read-doctype-text : Reader
-  read-doctype-text = doctype-before D (word ">" trailing)
+  read-doctype-text = doctype-before D too-deep (word ">" trailing)
 
   -- the whole of it: 10 bytes more than its text, which is not longer than any text that is looked at
   unfoldable pub read-doctype : Reader

@@ -10,7 +10,7 @@ use Rattle.spec.specs.Grammar.Languages.{ascii, one-of, none-of}
 use Rattle.spec.specs.Grammar.Characters.{space}
 use Rattle.spec.specs.Grammar.Literals.{pubid-char}
 use Rattle.spec.specs.Grammar.Names.{Dialect}
-use Rattle.spec.specs.Reading.Refusals.{Refusal, no-space, bad-name, has-colon, no-literal, unterminated, unexpected, trailing, bad-pubid, reserved-target, double-hyphen, bad-connector, less-than}
+use Rattle.spec.specs.Reading.Refusals.{Refusal, no-space, bad-name, has-colon, no-literal, unterminated, unexpected, trailing, bad-pubid, reserved-target, double-hyphen, bad-connector, less-than, too-deep}
 use Rattle.spec.specs.Reading.Places.{Place, at, nowhere, outside}
 use Rattle.spec.specs.Reading.Readers.{Result, ok, err, Reader, on-ok, _>>_, nothing, refuse, at-end, starts, choose, on, word, run, while, required, begins, char, contains, before, refuse-at, up-to}
 use Rattle.spec.specs.Reading.Wellformed.{check-char-refs, parts, name, check-name}
@@ -155,26 +155,6 @@ module _ (D : Dialect) where
   unfoldable pub cp-of : Reader → Reader
   cp-of group = on "(" group (name D) >> occurs
 
-  -- parse_group and parse_cp, where so many groups may yet be opened
-  unfoldable pub parse-group : ℕ → Reader
-  parse-group zero = refuse (D .beyond)
-  parse-group (suc height) = group-of (cp-of (parse-group height))
-
-  -- parse_children, which parse_contentspec calls at a '('
-  unfoldable pub parse-children : Reader
-  parse-children = parse-group (D .groups) >> occurs
-
-  -- parse_contentspec
-  unfoldable pub parse-contentspec : Reader
-  parse-contentspec =
-      on "EMPTY" (word "EMPTY" unexpected) (on "ANY" (word "ANY" unexpected)
-      (choose (λ w. starts (ascii "(") w && starts (ascii "#PCDATA") (drop (1 + run space (drop 1 w)) w)) parse-mixed
-      (on "(" parse-children (refuse unexpected))))
-
-  -- parse_element_decl
-  unfoldable pub parse-element-decl : Reader
-  parse-element-decl = require-s >> name D >> require-s >> parse-contentspec >> skip-s >> at-end trailing
-
   -- parse_att_type
   unfoldable pub parse-att-type : Reader
   parse-att-type =
@@ -216,14 +196,37 @@ module _ (D : Dialect) where
       on-ok (take-decl-body w)
       (λ k. on-ok (pick (pe-used || has-pe-reference (take k w)) nothing body (take k w)) (λ _. ok (k + 1)))
 
+-- What one group too many is refused with is left open here, so that a theorem can say when it is met: exactly when, whatever it is, it is
+-- the answer (`groups-exactly`). Everywhere else it is 20.
+module _ (D : Dialect) (beyond : Refusal) where
+  -- parse_group and parse_cp, where so many groups may yet be opened
+  unfoldable pub parse-group : ℕ → Reader
+  parse-group zero = refuse beyond
+  parse-group (suc height) = group-of (cp-of D (parse-group height))
+
+  -- parse_children, which parse_contentspec calls at a '('
+  unfoldable pub parse-children : Reader
+  parse-children = parse-group (D .groups) >> occurs
+
+  -- parse_contentspec
+  unfoldable pub parse-contentspec : Reader
+  parse-contentspec =
+      on "EMPTY" (word "EMPTY" unexpected) (on "ANY" (word "ANY" unexpected)
+      (choose (λ w. starts (ascii "(") w && starts (ascii "#PCDATA") (drop (1 + run space (drop 1 w)) w)) (parse-mixed D)
+      (on "(" parse-children (refuse unexpected))))
+
+  -- parse_element_decl
+  unfoldable pub parse-element-decl : Reader
+  parse-element-decl = require-s >> name D >> require-s >> parse-contentspec >> skip-s >> at-end trailing
+
   -- parse_markup_decl
   unfoldable pub parse-markup-decl : Bool → Reader
   parse-markup-decl pe-used =
-      on "<?" parse-pi (on "<!--" parse-comment (on "<![" (refuse unexpected)
-      (on "<!ELEMENT" (word "<!ELEMENT" unexpected >> finish-decl pe-used parse-element-decl)
-      (on "<!ATTLIST" (word "<!ATTLIST" unexpected >> finish-decl pe-used parse-attlist-decl)
-      (on "<!ENTITY" (word "<!ENTITY" unexpected >> finish-decl pe-used parse-entity-decl)
-      (word "<!NOTATION" unexpected >> finish-decl pe-used parse-notation-decl))))))
+      on "<?" (parse-pi D) (on "<!--" parse-comment (on "<![" (refuse unexpected)
+      (on "<!ELEMENT" (word "<!ELEMENT" unexpected >> finish-decl D pe-used parse-element-decl)
+      (on "<!ATTLIST" (word "<!ATTLIST" unexpected >> finish-decl D pe-used (parse-attlist-decl D))
+      (on "<!ENTITY" (word "<!ENTITY" unexpected >> finish-decl D pe-used (parse-entity-decl D))
+      (word "<!NOTATION" unexpected >> finish-decl D pe-used (parse-notation-decl D)))))))
 
   -- parse_internal_subset; each turn takes a byte or more, so the fuel lasts
   unfoldable pub subset-fuel : ℕ → Bool → Reader
@@ -231,7 +234,7 @@ module _ (D : Dialect) where
   subset-fuel (suc d) pe-used w =
       (skip-s
       >> on "]" (word "]" unexpected)
-      (on "%" (parse-pe-reference >> λ x. subset-fuel d true x)
+      (on "%" (parse-pe-reference D >> λ x. subset-fuel d true x)
       (on "<" (parse-markup-decl pe-used >> λ x. subset-fuel d pe-used x)
       (at-end unexpected >> refuse unterminated)))) w
 
@@ -246,5 +249,5 @@ module _ (D : Dialect) where
       >> on "[" (word "[" unexpected >> parse-internal-subset >> skip-s) nothing
       >> end
 
-  unfoldable pub check-doctype : Reader
-  check-doctype = doctype-before (at-end trailing)
+unfoldable pub check-doctype : Dialect → Reader
+check-doctype D = doctype-before D too-deep (at-end trailing)

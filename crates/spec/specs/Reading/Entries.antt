@@ -10,6 +10,7 @@ use Rattle.spec.specs.Grammar.Characters.{space}
 use Rattle.spec.specs.Grammar.Division.{Kind, element, attlist, entity, notation, instruction, comment, reference, Entry}
 use Rattle.spec.specs.Grammar.Languages.{ascii}
 use Rattle.spec.specs.Grammar.Names.{Dialect}
+use Rattle.spec.specs.Reading.Refusals.{too-deep}
 use Rattle.spec.specs.Reading.Dtd.{parse-pe-reference, parse-markup-decl}
 use Rattle.spec.specs.Reading.Places.{Place, at, nowhere}
 use Rattle.spec.specs.Reading.Readers.{Result, ok, err, Reader, starts, on, run}
@@ -28,7 +29,7 @@ kind-at w =
 module _ (D : Dialect) where
   -- one entry, [69] PEReference or [29] markupdecl: parse_internal_subset by the next sign, with pe_used
   abbrev pub one-entry : Reader
-  one-entry = on "%" (parse-pe-reference D) (parse-markup-decl D true)
+  one-entry = on "%" (parse-pe-reference D) (parse-markup-decl D too-deep true)
 
   -- an entry that begins at this place, where x is left, and those after it; none where no entry begins
   abbrev pub listed : (ℕ → List ℕ → List Entry) → ℕ → List ℕ → Result → List Entry

@@ -3,6 +3,7 @@
 use mathlib.Core.Path.{_≡_}
 use Prim.Native.Nat.{_-_}
 use lib.ListN.{length}
+use Rattle.spec.specs.Reading.Refusals.{too-deep}
 use Rattle.spec.specs.Reading.Dtd.{parse-internal-subset}
 use Rattle.spec.proofs.Dtd.Items.{items}
 use Rattle.error.specs.Read.{read}
@@ -12,7 +13,7 @@ use Rattle.subset.proofs.subset.parse_internal_subset.Statement.{statem
 use Rattle.subset.proofs.subset.parse_internal_subset.Tie as tie
 
 abbrev Inv-loop : tie.InvT-loop
-Inv-loop s at names pe-used₀ i₀ pe-used i = read (items (dialect names) pe-used) s i ≡ read (parse-internal-subset (dialect names)) s at
+Inv-loop s at names pe-used₀ i₀ pe-used i = read (items (dialect names) pe-used) s i ≡ read (parse-internal-subset (dialect names) too-deep) s at
 
 abbrev μ-loop : tie.MeasureT-loop
 μ-loop s at names pe-used₀ i₀ pe-used i = length s - i
