@@ -1,2 +1,4 @@
 pub mod RangeLaws
+pub mod AppendixBLaws
+pub mod FifthEditionLaws
 pub mod ClassLaws

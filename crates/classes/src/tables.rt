@@ -1,6 +1,5 @@
-// Appendix B of XML 1.0's earlier editions: the name classes as tables of range ends.
-// The tables: first and last code point of each range in turn, ascending. All lie below 2^16.
-// [85] BaseChar
+// The name classes as tables of range ends: first and last code point of each range in turn, ascending. All lie below 2^16.
+// Appendix B of XML 1.0's earlier editions: [85] BaseChar
 pub const BASE: [u16; 404] = [
     0x41,
     0x5A,
@@ -663,4 +662,54 @@ pub const EXTENDER: [u16; 22] = [
     0x309E,
     0x30FC,
     0x30FE,
+];
+
+// The fifth edition: [4] NameStartChar below 2^16
+pub const NAME_START: [u16; 30] = [
+    0x3A,
+    0x3A,
+    0x41,
+    0x5A,
+    0x5F,
+    0x5F,
+    0x61,
+    0x7A,
+    0xC0,
+    0xD6,
+    0xD8,
+    0xF6,
+    0xF8,
+    0x2FF,
+    0x370,
+    0x37D,
+    0x37F,
+    0x1FFF,
+    0x200C,
+    0x200D,
+    0x2070,
+    0x218F,
+    0x2C00,
+    0x2FEF,
+    0x3001,
+    0xD7FF,
+    0xF900,
+    0xFDCF,
+    0xFDF0,
+    0xFFFD,
+];
+
+// and what [4a] NameChar adds
+pub const ADDED: [u16; 12] = [
+    0x2D,
+    0x2D,
+    0x2E,
+    0x2E,
+    0x30,
+    0x39,
+    0xB7,
+    0xB7,
+    0x300,
+    0x36F,
+    0x203F,
+    0x2040,
 ];

@@ -26,15 +26,15 @@ use Rattle.error.proofs.Laws.{seq-no, seq-at, choose-yes, choose-no, refuses}
 use Rattle.search.proofs.Words.{word-no, word-fits}
 use Rattle.classes.specs.Classes.{dialect}
 use Rattle.classes.specs.declared.Names.{Names}
-use Rattle.classes.specs.declared.Names.the-variants.{AppendixB}
+use Rattle.classes.specs.declared.Names.the-variants.{AppendixB, FifthEdition}
 use Rattle.models.specs.Parts.{group-end}
 use Rattle.models.proofs.Signs.{sign-yes, connector-ends, some-sign, steps, after-sign, after-no, after-at}
 use Rattle.error.proofs.Whiles.{unroll, whiles}
 
 -- by the height
-pub group-none : (n : Names) (h m at : ℕ) (s : List ℕ) → h ≡ 0 → m ≡ number too-deep → said (No m at) ≡ read (parse-group (dialect n) too-deep h) s at
-unfolding read said parse-group refuse dialect
-group-none AppendixB h m at s e f = rw (e, f, add-zero)
+pub group-none : (D : Dialect) (h m at : ℕ) (s : List ℕ) → h ≡ 0 → m ≡ number too-deep → said (No m at) ≡ read (parse-group D too-deep h) s at
+unfolding read said parse-group refuse
+group-none D h m at s e f = rw (e, f, add-zero)
 
 pub group-some : (D : Dialect) (h at : ℕ) (s : List ℕ) (q : Said) → (h ≡ 0 → ⊥) → q ≡ read (word "(" unexpected >> skip-s >> cp-of D (parse-group D too-deep (h - 1)) >> skip-s >> group-end (cp-of D (parse-group D too-deep (h - 1)))) s at → q ≡ read (parse-group D too-deep h) s at
 unfolding parse-group group-of group-end
@@ -44,6 +44,7 @@ group-some D (suc h) at s q n a = rw sub-one at a
 pub all-groups : (n : Names) (at : ℕ) (s : List ℕ) (q : Said) → q ≡ read (parse-group (dialect n) too-deep 64) s at → q ≡ read (parse-group (dialect n) too-deep (dialect n .groups)) s at
 unfolding dialect
 all-groups AppendixB at s q a = a
+all-groups FifthEdition at s q a = a
 
 -- a particle
 pub cp-some : (D : Dialect) (G : Reader) (at : ℕ) (s : List ℕ) (q : Said) → q ≡ read (on "(" G (name D) >> occurs) s at → q ≡ read (cp-of D G) s at

@@ -11,6 +11,7 @@ pub mod Runs
 pub mod FirstSign
 pub mod Whole
 pub mod Algebra
+pub mod Wider
 pub mod Texts
 pub mod Tame
 pub mod Accepts

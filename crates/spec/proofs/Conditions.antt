@@ -10,15 +10,15 @@ use lib.ListN.{length}
 use Rattle.spec.specs.Basics.{limit}
 use Rattle.spec.specs.Conditions.{letters, Size, Limited, sizes, Alphabet, Ascii, alphabets}
 use Rattle.spec.specs.Grammar.AppendixB.{start-char, part-char, appendix-B}
-use Rattle.spec.specs.Grammar.Ranges.{in-table}
 use Rattle.spec.specs.Grammar.Characters.{xml-char, Chars}
 use Rattle.spec.specs.Grammar.Languages.{end, more}
 use Rattle.spec.specs.Grammar.Names.{Dialect, with-classes}
+use Rattle.spec.specs.Grammar.Ranges.{in-table}
 use Rattle.spec.specs.Grammar.Utf8.{encode}
 use Rattle.spec.specs.Rows.{All}
 use Rattle.spec.proofs.Base.Tables.{by-test}
 use Rattle.spec.proofs.Base.Tests.{alike, alike-same, leb-true, leb-yes}
-use Rattle.spec.proofs.Characters.AppendixB.{ascii-test, ascii-names, ascii-passes}
+use Rattle.spec.proofs.Characters.AsciiNames.{ascii-test, ascii-names, ascii-passes}
 
 -- lengths
 length-letters : (n : ℕ) → length (letters n) ≡ n

@@ -11,11 +11,12 @@ use Rattle.spec.specs.Grammar.AppendixB.{appendix-B}
 use Rattle.spec.specs.Grammar.Characters.{xml-char, Chars}
 use Rattle.spec.specs.Grammar.Division.{Front, Division}
 use Rattle.spec.specs.Grammar.Doctype.{doctypedecl}
+use Rattle.spec.specs.Grammar.FifthEdition.{fifth-edition}
 use Rattle.spec.specs.Grammar.Names.{Dialect, Name, NCName, with-groups, AsciiNames}
 use Rattle.spec.specs.Grammar.Prolog.{from-to, Begins, doctype-of, encoding-of, Document}
 use Rattle.spec.specs.Grammar.References.{Referred, CharData, AttText}
 use Rattle.spec.specs.Grammar.XmlDecl.{XMLDecl}
-use Rattle.spec.specs.Promises.{Checks, Stops, Tells, Covered, expected}
+use Rattle.spec.specs.Promises.{Checks, Stops, Tells, ChecksDoctype, Covered, expected}
 use Rattle.spec.specs.Reading.Checks.{check-declaration, is-ncname}
 use Rattle.spec.specs.Reading.Document.{legal-length}
 use Rattle.spec.specs.Reading.Dtd.{doctype-before, check-doctype}
@@ -32,6 +33,7 @@ use Rattle.spec.specs.Conditions.{Sided, samples, Limited, sizes, Ascii,
 use Rattle.spec.specs.Grammar.Languages.{Lang, Ch, Star}
 use Rattle.spec.proofs.Agreement.Accepts.{promise, tells}
 use Rattle.spec.proofs.Characters.AppendixB.{appendix-B-ascii}
+use Rattle.spec.proofs.Characters.FifthEdition.{fifth-edition-ascii}
 use Rattle.spec.proofs.Checks.NCNames.{ncname-decides}
 use Rattle.spec.proofs.Checks.XmlDecl.{declaration-agrees}
 use Rattle.spec.proofs.Division.Places.{divided, apart, one-division}
@@ -43,15 +45,22 @@ use Rattle.spec.proofs.Document.Legal.{legal-takes}
 use Rattle.spec.proofs.Document.Located.{check-lies}
 use Rattle.spec.proofs.Document.Marks.{check-refused-stays}
 use Rattle.spec.proofs.Document.Told.{told-inside}
+use Rattle.spec.proofs.Document.Wider.{document-wider}
 use Rattle.spec.proofs.Document.Whole.{document-right, parts-right, check-stays}
 use Rattle.spec.proofs.Dtd.Depth.{met-at-20, unmet-free}
 use Rattle.spec.proofs.Dtd.Texts.{doctype-agrees}
+use Rattle.spec.proofs.Dtd.Wider.{fifth-wider, name-wider, doctype-wider}
 use Rattle.spec.proofs.Inside.Chars.{illegal-there, none-before}
 use Rattle.spec.proofs.Inside.Checks.{chars-placed, char-refs-placed, text-placed, attr-value-placed, name-placed, doctype-placed, declaration-placed}
 use Rattle.spec.proofs.Rows
 use Rattle.spec.proofs.Conditions
 use Rattle.spec.proofs.Wellformed.LongestName.{Takes}
 use Rattle.spec.proofs.Wellformed.Checks.{chars-agree, char-refs-agree, text-agree, attr-value-agree, name-agrees}
+
+-- What speaks of names holds for any name classes that have XML's ASCII characters, with any limit of open groups. Those of the checks have
+-- them: Appendix B's and the fifth edition's.
+pub editions : AsciiNames appendix-B × AsciiNames fifth-edition
+editions = (appendix-B-ascii, fifth-edition-ascii)
 
 -- Demand 2: on every text the order of reading, with 1 and 2 in front, answers 0 exactly for what the grammar derives.
 abbrev Right : Reader → Lang → Type 0
@@ -69,22 +78,19 @@ text-right w = promise text-agree w _ refl
 pub attr-value-right : Right check-attr-value AttText
 attr-value-right w = promise attr-value-agree w _ refl
 
-pub name-right : Right (check-name appendix-B) (Name appendix-B)
-name-right w = promise (name-agrees appendix-B appendix-B-ascii) w _ refl
-
--- for any name classes that have XML's ASCII characters, and for Appendix B's
-pub doctype-right : (D : Dialect) → AsciiNames D → Right (check-doctype D) (doctypedecl D)
-doctype-right D A w = promise (doctype-agrees D A) w _ refl
-
-pub doctype-right-B : Right (check-doctype appendix-B) (doctypedecl appendix-B)
-doctype-right-B = doctype-right appendix-B appendix-B-ascii
-
 pub declaration-right : Right check-declaration XMLDecl
 declaration-right w = promise declaration-agrees w _ refl
 
--- is_ncname says yes exactly to an NCName that may be looked at; with 1 and 2 it says no
-pub ncname-right : (w : List ℕ) → Tells (NCName appendix-B) w (checked nothing w) (eqb (checked nothing w) 0 && is-ncname appendix-B w)
-ncname-right = tells (ncname-decides appendix-B appendix-B-ascii)
+module _ (D : Dialect) (A : AsciiNames D) where
+  pub name-right : Right (check-name D) (Name D)
+  name-right w = promise (name-agrees D A) w _ refl
+
+  pub doctype-right : Right (check-doctype D) (doctypedecl D)
+  doctype-right w = promise (doctype-agrees D A) w _ refl
+
+  -- is_ncname says yes exactly to an NCName that may be looked at; with 1 and 2 it says no
+  pub ncname-right : (w : List ℕ) → Tells (NCName D) w (checked nothing w) (eqb (checked nothing w) 0 && is-ncname D w)
+  ncname-right = tells (ncname-decides D A)
 
 -- The sixteen texts of docs/SCOPE.md have the numbers that stand beside them
 pub sixteen-rows : All Numbered rows
@@ -100,24 +106,42 @@ pub groups-free : (D : Dialect) (w : List ℕ) → (checked (check-doctype D) w 
     → (n : ℕ) → D .groups ≤ n → checked (check-doctype (with-groups D n)) w ≡ checked (check-doctype D) w
 groups-free = unmet-free
 
--- Demand 3: an accepted DOCTYPE has no subset, or a division into entries; not both, and not two.
-pub accepted-divided : (w : List ℕ) → doctypedecl appendix-B w ↔ (Front appendix-B w ⊎ Division appendix-B w)
-accepted-divided = divided appendix-B appendix-B-ascii
+-- Request 1: what the grammar derives under Appendix B it derives under the fifth edition (by lemmas over any two dialects of which one holds
+-- the other); so by their promises the new checks answer 0 wherever the old ones do.
+pub fifth-names : (w : List ℕ) → Name appendix-B w → Name fifth-edition w
+fifth-names = name-wider fifth-wider .into
 
-pub not-both : (w : List ℕ) → Front appendix-B w → Division appendix-B w → ⊥
-not-both = apart appendix-B appendix-B-ascii
+pub fifth-doctypes : (w : List ℕ) → doctypedecl appendix-B w → doctypedecl fifth-edition w
+fifth-doctypes = doctype-wider fifth-wider .into
 
-pub one-way-only : (w : List ℕ) (a b : Division appendix-B w) → (a .entries ≡ b .entries) × (a .opening ≡ b .opening) × (a .closing ≡ b .closing)
-one-way-only = one-division appendix-B appendix-B-ascii
+pub fifth-documents : (w : List ℕ) → Document appendix-B w → Document fifth-edition w
+fifth-documents = document-wider fifth-wider .into
 
--- How many declarations of a DOCTYPE go unread: as many as do among the entries that the order of reading meets.
-pub unread-right : (t : List ℕ) → CountsUnread appendix-B t (length (unread-entries appendix-B t false (declarations appendix-B t)))
-unread-right = unread-counted appendix-B appendix-B-ascii
+pub fifth-accepts-name : (w : List ℕ) (n m : ℕ) → Checks (check-name appendix-B) (Name appendix-B) w n → Checks (check-name fifth-edition) (Name fifth-edition) w m → n ≡ 0 → m ≡ 0
+fifth-accepts-name w n m b f z = let (h, l) = b .grammar .0 z in f .grammar .1 (h, fifth-names w l)
 
--- Wherever a text is cut that demand 3 speaks of, the scan says of the front part whether the subset's '[' and the ']' that closes it
--- are in it, and names that ']'; of a text without a subset it says "not opened".
-pub cut-anywhere : (t : List ℕ) (c : Covered appendix-B t) (cut : ℕ) → scan (take cut t) ≡ expected appendix-B c cut
-cut-anywhere = cuts-covered appendix-B appendix-B-ascii
+pub fifth-accepts-doctype : (w : List ℕ) (n m : ℕ) → ChecksDoctype appendix-B w n → ChecksDoctype fifth-edition w m → n ≡ 0 → m ≡ 0
+fifth-accepts-doctype w n m b f z = let (h, l) = b .grammar .0 z in f .grammar .1 (h, fifth-doctypes w l)
+
+module _ (D : Dialect) (A : AsciiNames D) where
+  -- Demand 3: an accepted DOCTYPE has no subset, or a division into entries; not both, and not two.
+  pub accepted-divided : (w : List ℕ) → doctypedecl D w ↔ (Front D w ⊎ Division D w)
+  accepted-divided = divided D A
+
+  pub not-both : (w : List ℕ) → Front D w → Division D w → ⊥
+  not-both = apart D A
+
+  pub one-way-only : (w : List ℕ) (a b : Division D w) → (a .entries ≡ b .entries) × (a .opening ≡ b .opening) × (a .closing ≡ b .closing)
+  one-way-only = one-division D A
+
+  -- How many declarations of a DOCTYPE go unread: as many as do among the entries that the order of reading meets.
+  pub unread-right : (t : List ℕ) → CountsUnread D t (length (unread-entries D t false (declarations D t)))
+  unread-right = unread-counted D A
+
+  -- Wherever a text is cut that demand 3 speaks of, the scan says of the front part whether the subset's '[' and the ']' that closes it
+  -- are in it, and names that ']'; of a text without a subset it says "not opened".
+  pub cut-anywhere : (t : List ℕ) (c : Covered D t) (cut : ℕ) → scan (take cut t) ≡ expected D c cut
+  cut-anywhere = cuts-covered D A
 
 -- Which texts those are, from both sides: a table of texts that demand 3 speaks of, texts that its premise keeps out, and texts that the
 -- grammar does not derive.
@@ -147,14 +171,14 @@ text-located w = text-placed .stops w _ _ refl refl
 pub attr-value-located : Located check-attr-value
 attr-value-located w = attr-value-placed .stops w _ _ refl refl
 
-pub name-located : Located (check-name appendix-B)
-name-located w = name-placed appendix-B .stops w _ _ refl refl
-
-pub doctype-located : Located (check-doctype appendix-B)
-doctype-located w = doctype-placed appendix-B .stops w _ _ refl refl
-
 pub declaration-located : Located check-declaration
 declaration-located w = declaration-placed .stops w _ _ refl refl
+
+pub name-located : (D : Dialect) → Located (check-name D)
+name-located D w = name-placed D .stops w _ _ refl refl
+
+pub doctype-located : (D : Dialect) → Located (check-doctype D)
+doctype-located D w = doctype-placed D .stops w _ _ refl refl
 
 -- Each text of the table that shows places is refused with its number where its second piece begins.
 pub places-shown : All Met spots
@@ -169,41 +193,42 @@ legal-before = none-before
 
 -- A whole document. It is accepted exactly where, after a byte order mark if there is one, it begins with a prolog that the grammar derives
 -- and with '<' and a Name, in characters that its encoding has in common with UTF-8.
-pub document-accepted : (whole : Bool) (w : List ℕ) → (number-in (check-document appendix-B whole w) ≡ 0) ↔ Document appendix-B (unmarked w)
-document-accepted = document-right appendix-B appendix-B-ascii
+module _ (D : Dialect) (A : AsciiNames D) where
+  pub document-accepted : (whole : Bool) (w : List ℕ) → (number-in (check-document D whole w) ≡ 0) ↔ Document D (unmarked w)
+  document-accepted = document-right D A
 
--- Then the verdict tells the grammar's prolog and the grammar's DOCTYPE; the encoding that is found is the grammar's; and there is but one
--- prolog.
-pub document-parts : (whole : Bool) (w : List ℕ) (d : Document appendix-B (unmarked w))
-    → check-document appendix-B whole w ≡ moved (mark-length w) (accepted (length (d .begins .front)) (doctype-of appendix-B (d .begins)))
-document-parts = parts-right appendix-B appendix-B-ascii
+  -- Then the verdict tells the grammar's prolog and the grammar's DOCTYPE; the encoding that is found is the grammar's; and there is but one
+  -- prolog.
+  pub document-parts : (whole : Bool) (w : List ℕ) (d : Document D (unmarked w))
+      → check-document D whole w ≡ moved (mark-length w) (accepted (length (d .begins .front)) (doctype-of D (d .begins)))
+  document-parts = parts-right D A
 
-pub encoding-found : (w : List ℕ) (b : Begins appendix-B xml-char w) → encoding-read w ≡ encoding-of appendix-B b
-encoding-found = encoding-right appendix-B appendix-B-ascii
+  pub encoding-found : (w : List ℕ) (b : Begins D xml-char w) → encoding-read w ≡ encoding-of D b
+  encoding-found = encoding-right D A
 
-pub prolog-once : (w : List ℕ) (a b : Begins appendix-B xml-char w) → a .front ≡ b .front
-prolog-once = one-prolog appendix-B appendix-B-ascii xml-char
+  pub prolog-once : (w : List ℕ) (a b : Begins D xml-char w) → a .front ≡ b .front
+  prolog-once = one-prolog D A xml-char
 
--- What is accepted of a beginning is accepted of the whole, whatever follows, and the verdict is the same.
-pub document-stays : (part whole : Bool) (w v : List ℕ) → number-in (check-document appendix-B part w) ≡ 0 → check-document appendix-B whole (w ++ v) ≡ check-document appendix-B part w
-document-stays = check-stays appendix-B appendix-B-ascii
+  -- What is accepted of a beginning is accepted of the whole, whatever follows, and the verdict is the same.
+  pub document-stays : (part whole : Bool) (w v : List ℕ) → number-in (check-document D part w) ≡ 0 → check-document D whole (w ++ v) ≡ check-document D part w
+  document-stays = check-stays D A
+
+  -- The DOCTYPE's text that it tells lies within the text, before its last byte at the latest, and the grammar derives it.
+  pub doctype-inside : (whole : Bool) (w : List ℕ) (i j : ℕ) → doctype-in (check-document D whole w) ≡ from-to i j → (i ≤ j) × ((j < length w) × doctypedecl D (take (j - i) (drop i w)))
+  doctype-inside = told-inside D A
+
+-- What is refused of a beginning is refused of the whole, whatever follows, with the same number and at the same place. (Where only the
+-- end of what is held is in the way, nothing is refused yet.)
+pub document-refused-stays : (D : Dialect) (part whole : Bool) (w v : List ℕ) (r : Refusal) (i : ℕ) → check-document D part w ≡ refused r i → check-document D whole (w ++ v) ≡ refused r i
+document-refused-stays = check-refused-stays
+
+-- The place that a verdict tells lies within the text, and what does not end was opened there or before.
+pub document-within : (D : Dialect) (whole : Bool) (w : List ℕ) → (place-in (check-document D whole w) ≤ length w) × (opened-in (check-document D whole w) ≤ place-in (check-document D whole w))
+document-within = check-lies
 
 -- What is read of a text, in characters of a class, is the longest front part that consists of them.
 pub legal-longest : (p : ℕ → Bool) (w : List ℕ) → Takes (Star (Ch p)) w (legal-length p w)
 legal-longest = legal-takes
-
--- The place that a verdict tells lies within the text, and what does not end was opened there or before.
-pub document-within : (whole : Bool) (w : List ℕ) → (place-in (check-document appendix-B whole w) ≤ length w) × (opened-in (check-document appendix-B whole w) ≤ place-in (check-document appendix-B whole w))
-document-within = check-lies appendix-B
-
--- The DOCTYPE's text that it tells lies within the text, before its last byte at the latest, and the grammar derives it.
-pub doctype-inside : (whole : Bool) (w : List ℕ) (i j : ℕ) → doctype-in (check-document appendix-B whole w) ≡ from-to i j → (i ≤ j) × ((j < length w) × doctypedecl appendix-B (take (j - i) (drop i w)))
-doctype-inside = told-inside appendix-B appendix-B-ascii
-
--- What is refused of a beginning is refused of the whole, whatever follows, with the same number and at the same place. (Where only the
--- end of what is held is in the way, nothing is refused yet.)
-pub document-refused-stays : (part whole : Bool) (w v : List ℕ) (r : Refusal) (i : ℕ) → check-document appendix-B part w ≡ refused r i → check-document appendix-B whole (w ++ v) ≡ refused r i
-document-refused-stays = check-refused-stays appendix-B
 
 -- Documents with their verdicts, by the numbers, the places, and where what does not end was opened.
 pub documents-shown : All Judged cases

@@ -21,3 +21,4 @@ pub mod Closed
 pub mod Known
 pub mod Stands
 pub mod Marks
+pub mod Wider

@@ -15,6 +15,7 @@ pub mod Items
 pub mod Doctype
 pub mod Markup
 pub mod Texts
+pub mod Wider
 pub mod DepthAlike
 pub mod DepthReaders
 pub mod Depth

@@ -6,6 +6,7 @@ pub mod References
 pub mod Names
 pub mod Ranges
 pub mod AppendixB
+pub mod FifthEdition
 pub mod Literals
 pub mod ContentModels
 pub mod Declarations

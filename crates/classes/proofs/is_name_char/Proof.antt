@@ -10,5 +10,9 @@ is-name-char-spec =
     (λ c. search classes)  -- cast-ascii-name-char
     (λ c κs. search classes)  -- ascii-name-char-requires
     (λ c. search classes)  -- returns
+    (λ c. search classes)  -- enum-told
     (λ c κs. search classes)  -- appendix-b-char-requires
-    (λ c. search classes))  -- returns-2
+    (λ c. search classes)  -- enum-told-2
+    (λ c κs. search classes)  -- fifth-char-requires
+    (λ c. search classes)  -- returns-2
+    (λ c. search classes))  -- returns-3

@@ -10,5 +10,9 @@ is-name-start-char-spec =
     (λ c. search classes)  -- cast-ascii-name-start
     (λ c κs. search classes)  -- ascii-name-start-requires
     (λ c. search classes)  -- returns
+    (λ c. search classes)  -- enum-told
     (λ c κs. search classes)  -- is-letter-requires
-    (λ c. search classes))  -- returns-2
+    (λ c. search classes)  -- enum-told-2
+    (λ c κs. search classes)  -- fifth-start-requires
+    (λ c. search classes)  -- returns-2
+    (λ c. search classes))  -- returns-3

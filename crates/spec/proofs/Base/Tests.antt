@@ -87,6 +87,10 @@ pub or-cases : (a b : Bool) → (a || b) ≡ true → (a ≡ true) ⊎ (b ≡ tr
 or-cases true b e = inl refl
 or-cases false b e = inr e
 
+-- each of two tests is enough
+pub or-elim : {a b l : Bool} → (a ≡ true → l ≡ true) → (b ≡ true → l ≡ true) → (a || b) ≡ true → l ≡ true
+or-elim {a} {b} f g e = ⊎-elim f g (or-cases a b e)
+
 pub or-false-left : (a b : Bool) → (a || b) ≡ false → a ≡ false
 or-false-left true b e = e
 or-false-left false b e = refl

@@ -1,10 +1,10 @@
--- `classes::in_ranges` meets its contract. The invariant: the ranges before lo end below x, and the range hi does not.
+-- `classes::ranges::in_ranges` meets its contract. The invariant: the ranges before lo end below x, and the range hi does not.
 -- Assumes nothing.
 use Prim.Native.Nat.{ℕ, _+_, _-_, _*_, _/_, _≤_, _<_}
 use lib.ListN.{length, getD}
 use Rattle.classes.proofs.RangeLaws.{tables}
-use Rattle.classes.proofs.in_ranges.Statement.{statement}
-use Rattle.classes.proofs.in_ranges.Tie as tie
+use Rattle.classes.proofs.ranges.in_ranges.Statement.{statement}
+use Rattle.classes.proofs.ranges.in_ranges.Tie as tie
 
 abbrev Inv-loop : tie.InvT-loop
 Inv-loop t x n lo₀ hi₀ lo hi = (lo ≤ hi) × (hi ≤ length t / 2) × ((j : ℕ) → j < lo → getD t (2 * j + 1) 0 < x) × (hi < length t / 2 → x ≤ getD t (2 * hi + 1) 0)
