@@ -6,20 +6,21 @@ use Prim.Native.Nat.{ℕ}
 use borrow.Author.Needs.{needs}
 use lib.ListN.{drop}
 use Rattle.spec.specs.Grammar.Languages.{ascii}
-use Rattle.spec.specs.Grammar.AppendixB.{appendix-B}
 use Rattle.spec.specs.Grammar.Doctype.{doctypedecl}
+use Rattle.spec.specs.Grammar.Names.{Dialect, AsciiNames}
 use Rattle.spec.specs.Reading.Readers.{_>>_, nothing, number-of, starts, choose}
 use Rattle.spec.specs.Promises.{ChecksDoctype}
 use Rattle.spec.specs.Reading.Dtd.{skip-s, parse-external-id, check-doctype}
 use Rattle.spec.specs.Reading.Source.{checked}
-use Rattle.spec.proofs.Agreement.Accepts.{Agrees}
-use Rattle.spec.proofs.Characters.AppendixB.{appendix-B-ascii}
 use Rattle.spec.proofs.Division.Promised.{doctype-promise}
 use Rattle.spec.proofs.Dtd.Texts.{doctype-agrees}
 use Rattle.spec.proofs.Inside.Checks.{Placed, doctype-placed}
 use Rattle.error.specs.Read.{Said, read}
 use Rattle.source.proofs.Admitting.{call-refused, call-answered}
 use Rattle.source.proofs.Placing.{stopping}
+use Rattle.classes.specs.Classes.{dialect}
+use Rattle.classes.specs.declared.Names.{Names}
+use Rattle.classes.proofs.ClassLaws.{dialect-ascii}
 use Rattle.cursor.proofs.Reading.{reading}
 use Rattle.dtd.specs.Parts.{id-part}
 use Rattle.dtd.proofs.Ending.{read-last, read-ended}
@@ -34,21 +35,23 @@ module _ (s : List ℕ) (at : ℕ) (a b : Bool) (e : a ≡ starts (ascii "SYSTEM
   unfolding read choose id-part
   id-no g h = rw (sym e, sym f, g) h
 
--- the check of this dialect accepts what its grammar derives
-whole-agrees : Agrees (check-doctype appendix-B) (doctypedecl appendix-B)
-whole-agrees = doctype-agrees appendix-B appendix-B-ascii
+-- the public call by any edition's names, after admit: n is the number in front, and m the rule's own
+module _ (names : Names) (w : List ℕ) (n : ℕ) (e : n ≡ checked nothing w) where
+  abbrev D : Dialect
+  D = dialect names
 
--- the public call after admit: n is the number in front, and m the rule's own
-module _ (w : List ℕ) (n : ℕ) (e : n ≡ checked nothing w) where
-  pub doctype-refused : (n ≡ 0 → ⊥) → ChecksDoctype appendix-B w n
-  doctype-refused z = doctype-promise appendix-B appendix-B-ascii w n (call-refused (check-doctype appendix-B) (doctypedecl appendix-B) w n whole-agrees e z)
+  abbrev A : AsciiNames D
+  A = dialect-ascii names
 
-  pub doctype-answered : (m : ℕ) → n ≡ 0 → m ≡ number-of (check-doctype appendix-B w) → ChecksDoctype appendix-B w m
-  doctype-answered m z f = doctype-promise appendix-B appendix-B-ascii w m (call-answered (check-doctype appendix-B) (doctypedecl appendix-B) w n m whole-agrees e z f)
+  pub doctype-refused : (n ≡ 0 → ⊥) → ChecksDoctype D w n
+  doctype-refused z = doctype-promise D A w n (call-refused (check-doctype D) (doctypedecl D) w n (doctype-agrees D A) e z)
+
+  pub doctype-answered : (m : ℕ) → n ≡ 0 → m ≡ number-of (check-doctype D w) → ChecksDoctype D w m
+  doctype-answered m z f = doctype-promise D A w m (call-answered (check-doctype D) (doctypedecl D) w n m (doctype-agrees D A) e z f)
 
 -- and its places lie within the text
-pub whole-placed : Placed (check-doctype appendix-B)
-whole-placed = doctype-placed appendix-B
+pub whole-placed : (names : Names) → Placed (check-doctype (dialect names))
+whole-placed names = doctype-placed (dialect names)
 
 -- what the parts search, and the public calls
 pub ruleset parts-read = (id-yes, id-no, read-last, reading)
@@ -58,3 +61,6 @@ pub ruleset ending = (read-ended, reading)
 pub ruleset whole = (doctype-refused, doctype-answered, needs)
 
 pub ruleset located = (stopping, whole-placed)
+
+-- what a call of one edition searches, with `dialect` opened
+pub ruleset edition = (needs)

@@ -17,6 +17,7 @@ use source::admit_at;
 use subset::parse_internal_subset;
 ghost use mathlib.Core.Path.{_≡_};
 ghost use Rattle.spec.specs.Grammar.AppendixB.{appendix-B};
+ghost use Rattle.spec.specs.Grammar.FifthEdition.{fifth-edition};
 ghost use Rattle.spec.specs.Reading.Refusals.{too-deep};
 ghost use Rattle.spec.specs.Reading.Dtd.{doctype-before, check-doctype};
 ghost use Rattle.spec.specs.Reading.Readers.{nothing, number-of};
@@ -82,33 +83,66 @@ fn parse_doctype(s: &[u8], names: Names) -> Answer
     at_end(s, i)
 }
 
-// The first refusal that the Rust meets, on any bytes.
-pub fn doctype_number(text: &[u8]) -> u8
-    ensures { λ r. ⌜ r ≡ number-of (check-doctype appendix-B (now (text .entry))) ⌝ }
+// The first refusal that is met, on any bytes, by these names.
+fn number_by(text: &[u8], names: Names) -> u8
+    ensures { λ r. ⌜ r ≡ number-of (check-doctype (dialect names) (now (text .entry))) ⌝ }
 {
-    let r = parse_doctype(text, Names::AppendixB);
+    let r = parse_doctype(text, names);
     number(r)
 }
 
-// The public check: 1 and 2 come first.
-pub fn check_doctype(text: &[u8]) -> u8
-    ensures { λ r. ⌜ ChecksDoctype appendix-B (now (text .entry)) r ⌝ }
+// The public checks, by these names: 1 and 2 come first.
+fn check_by(text: &[u8], names: Names) -> u8
+    ensures { λ r. ⌜ ChecksDoctype (dialect names) (now (text .entry)) r ⌝ }
 {
     let n = admit(text);
     if n != ACCEPTED {
         return n;
     }
-    doctype_number(text)
+    number_by(text, names)
 }
 
-// The same with the place where it is refused.
-pub fn check_doctype_at(text: &[u8]) -> Stop
-    ensures { λ r. ⌜ Stops (check-doctype appendix-B) (now (text .entry)) (r .number) (r .place) ⌝ }
+// With the place where it is refused.
+fn check_at_by(text: &[u8], names: Names) -> Stop
+    ensures { λ r. ⌜ Stops (check-doctype (dialect names)) (now (text .entry)) (r .number) (r .place) ⌝ }
 {
     let a = admit_at(text);
     let Answer::At(_) = a else {
         return stopped(a);
     };
-    let r = parse_doctype(text, Names::AppendixB);
+    let r = parse_doctype(text, names);
     stopped(r)
+}
+
+// The first refusal that the Rust meets, on any bytes.
+pub fn doctype_number(text: &[u8]) -> u8
+    ensures { λ r. ⌜ r ≡ number-of (check-doctype appendix-B (now (text .entry))) ⌝ }
+{
+    number_by(text, Names::AppendixB)
+}
+
+// check_doctype of the Rust.
+pub fn check_doctype(text: &[u8]) -> u8
+    ensures { λ r. ⌜ ChecksDoctype appendix-B (now (text .entry)) r ⌝ }
+{
+    check_by(text, Names::AppendixB)
+}
+
+pub fn check_doctype_at(text: &[u8]) -> Stop
+    ensures { λ r. ⌜ Stops (check-doctype appendix-B) (now (text .entry)) (r .number) (r .place) ⌝ }
+{
+    check_at_by(text, Names::AppendixB)
+}
+
+// The same by the fifth edition's names; the Rust has no such call.
+pub fn check_doctype_fifth(text: &[u8]) -> u8
+    ensures { λ r. ⌜ ChecksDoctype fifth-edition (now (text .entry)) r ⌝ }
+{
+    check_by(text, Names::FifthEdition)
+}
+
+pub fn check_doctype_fifth_at(text: &[u8]) -> Stop
+    ensures { λ r. ⌜ Stops (check-doctype fifth-edition) (now (text .entry)) (r .number) (r .place) ⌝ }
+{
+    check_at_by(text, Names::FifthEdition)
 }

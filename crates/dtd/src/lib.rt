@@ -3,5 +3,7 @@ mod doctype;
 
 pub use doctype::check_doctype;
 pub use doctype::check_doctype_at;
+pub use doctype::check_doctype_fifth;
+pub use doctype::check_doctype_fifth_at;
 pub use doctype::doctype_number;
 pub use doctype::parse_before_end;

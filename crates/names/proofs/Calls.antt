@@ -1,21 +1,26 @@
--- What the public calls promise: their rule agrees with the grammar, and its places lie within the text. Assumes nothing.
+-- What the public calls promise, by any edition's names: their rule agrees with the grammar, and its places lie within the text. Assumes
+-- nothing.
+use borrow.Author.Needs.{needs}
 use Rattle.spec.specs.Grammar.Names.{Name}
-use Rattle.spec.specs.Grammar.AppendixB.{appendix-B}
 use Rattle.spec.specs.Reading.Wellformed.{check-name}
 use Rattle.spec.proofs.Agreement.Accepts.{Agrees}
 use Rattle.spec.proofs.Inside.Checks.{Placed, name-placed}
-use Rattle.spec.proofs.Characters.AppendixB.{appendix-B-ascii}
 use Rattle.spec.proofs.Wellformed.Checks.{name-agrees}
 use Rattle.source.proofs.Admitting.{calling}
 use Rattle.source.proofs.Placing.{stopping}
+use Rattle.classes.specs.Classes.{dialect}
+use Rattle.classes.specs.declared.Names.{Names}
+use Rattle.classes.proofs.ClassLaws.{dialect-ascii}
 
--- this dialect's rule for names accepts what its grammar derives
-pub name-agrees-B : Agrees (check-name appendix-B) (Name appendix-B)
-name-agrees-B = name-agrees appendix-B appendix-B-ascii
+pub name-agrees-by : (names : Names) → Agrees (check-name (dialect names)) (Name (dialect names))
+name-agrees-by names = name-agrees (dialect names) (dialect-ascii names)
 
-pub ruleset calls = (calling, name-agrees-B)
+pub ruleset calls = (calling, name-agrees-by)
 
-pub name-placed-B : Placed (check-name appendix-B)
-name-placed-B = name-placed appendix-B
+pub name-placed-by : (names : Names) → Placed (check-name (dialect names))
+name-placed-by names = name-placed (dialect names)
 
-pub ruleset located = (stopping, name-placed-B)
+pub ruleset located = (stopping, name-placed-by)
+
+-- what a call of one edition searches, with `dialect` opened
+pub ruleset edition = (needs)

@@ -21,6 +21,7 @@ ghost use lib.ListN.{drop};
 ghost use Rattle.spec.specs.Grammar.Names.{Name};
 ghost use Rattle.spec.specs.Promises.{Checks, Stops};
 ghost use Rattle.spec.specs.Grammar.AppendixB.{appendix-B};
+ghost use Rattle.spec.specs.Grammar.FifthEdition.{fifth-edition};
 ghost use Rattle.spec.specs.Reading.Readers.{number-of, taken};
 ghost use Rattle.spec.specs.Reading.Wellformed.{parts, name-length, check-name};
 ghost use Rattle.error.specs.Read.{said, read};
@@ -176,25 +177,51 @@ pub fn name_number(text: &[u8], names: Names) -> u8
     number(r)
 }
 
-// check_name of the Rust: the whole text is a Name of Appendix B.
-pub fn check_name(text: &[u8]) -> u8
-    ensures { λ r. ⌜ Checks (check-name appendix-B) (Name appendix-B) (now (text .entry)) r ⌝ }
+// The public checks, by these names: 1 and 2 come first.
+fn check_by(text: &[u8], names: Names) -> u8
+    ensures { λ r. ⌜ Checks (check-name (dialect names)) (Name (dialect names)) (now (text .entry)) r ⌝ }
 {
     let n = admit(text);
     if n != ACCEPTED {
         return n;
     }
-    name_number(text, Names::AppendixB)
+    name_number(text, names)
 }
 
-// The same with the place: where no name begins, or its first character that is none of a name.
-pub fn check_name_at(text: &[u8]) -> Stop
-    ensures { λ r. ⌜ Stops (check-name appendix-B) (now (text .entry)) (r .number) (r .place) ⌝ }
+// With the place: where no name begins, or the first character that is none of a name.
+fn check_at_by(text: &[u8], names: Names) -> Stop
+    ensures { λ r. ⌜ Stops (check-name (dialect names)) (now (text .entry)) (r .number) (r .place) ⌝ }
 {
     let a = admit_at(text);
     let Answer::At(_) = a else {
         return stopped(a);
     };
-    let r = whole_name(text, 0, Names::AppendixB);
+    let r = whole_name(text, 0, names);
     stopped(r)
+}
+
+// check_name of the Rust: the whole text is a Name of Appendix B.
+pub fn check_name(text: &[u8]) -> u8
+    ensures { λ r. ⌜ Checks (check-name appendix-B) (Name appendix-B) (now (text .entry)) r ⌝ }
+{
+    check_by(text, Names::AppendixB)
+}
+
+pub fn check_name_at(text: &[u8]) -> Stop
+    ensures { λ r. ⌜ Stops (check-name appendix-B) (now (text .entry)) (r .number) (r .place) ⌝ }
+{
+    check_at_by(text, Names::AppendixB)
+}
+
+// The same by the fifth edition's names; the Rust has no such call.
+pub fn check_name_fifth(text: &[u8]) -> u8
+    ensures { λ r. ⌜ Checks (check-name fifth-edition) (Name fifth-edition) (now (text .entry)) r ⌝ }
+{
+    check_by(text, Names::FifthEdition)
+}
+
+pub fn check_name_fifth_at(text: &[u8]) -> Stop
+    ensures { λ r. ⌜ Stops (check-name fifth-edition) (now (text .entry)) (r .number) (r .place) ⌝ }
+{
+    check_at_by(text, Names::FifthEdition)
 }

@@ -1,7 +1,6 @@
--- `names::check_name` meets its contract. `dialect` is opened: Appendix B's classes are the code's.
--- Assumes nothing.
+-- `names::check_name` meets its contract. `dialect` is opened: its classes are the code's. Assumes nothing.
 use Rattle.classes.specs.Classes.{dialect}
-use Rattle.names.proofs.Calls.{calls}
+use Rattle.names.proofs.Calls.{edition}
 use Rattle.names.proofs.check_name.Statement.{statement}
 use Rattle.names.proofs.check_name.Tie as tie
 
@@ -10,7 +9,5 @@ unfolding dialect
 check-name-spec =
     tie.close
     (tie.spec
-    (λ c κs. search calls)  -- admit-requires
-    (λ c. search calls)  -- returns
-    (λ c κs. search calls)  -- name-number-requires
-    (λ c. search calls))  -- returns-2
+    (λ c κs. search edition)  -- check-by-requires
+    (λ c. search edition))  -- returns

@@ -1,13 +1,13 @@
--- `dtd::doctype::check_doctype` meets its contract. Assumes nothing.
-use Rattle.dtd.proofs.Whole.{whole}
+-- `dtd::doctype::check_doctype` meets its contract. `dialect` is opened: its classes are the code's. Assumes nothing.
+use Rattle.classes.specs.Classes.{dialect}
+use Rattle.dtd.proofs.Whole.{edition}
 use Rattle.dtd.proofs.doctype.check_doctype.Statement.{statement}
 use Rattle.dtd.proofs.doctype.check_doctype.Tie as tie
 
 pub check-doctype-spec : {M : Type 1} → statement M
+unfolding dialect
 check-doctype-spec =
     tie.close
     (tie.spec
-    (λ c κs. search whole)  -- admit-requires
-    (λ c. search whole)  -- returns
-    (λ c κs. search whole)  -- doctype-number-requires
-    (λ c. search whole))  -- returns-2
+    (λ c κs. search edition)  -- check-by-requires
+    (λ c. search edition))  -- returns

@@ -1,6 +1,6 @@
--- `dtd::doctype::check_doctype_at` meets its contract. Assumes nothing.
+-- `dtd::doctype::check_doctype_at` meets its contract. `dialect` is opened: its classes are the code's. Assumes nothing.
 use Rattle.classes.specs.Classes.{dialect}
-use Rattle.dtd.proofs.Whole.{located}
+use Rattle.dtd.proofs.Whole.{edition}
 use Rattle.dtd.proofs.doctype.check_doctype_at.Statement.{statement}
 use Rattle.dtd.proofs.doctype.check_doctype_at.Tie as tie
 
@@ -9,11 +9,5 @@ unfolding dialect
 check-doctype-at-spec =
     tie.close
     (tie.spec
-    (λ c κs. search located)  -- admit-at-requires
-    (λ c. search located)  -- enum-told
-    (λ c. search located)  -- enum-told-2
-    (λ c κs. search located)  -- stopped-requires
-    (λ c. search located)  -- returns
-    (λ c κs. search located)  -- parse-doctype-requires
-    (λ c κs. search located)  -- stopped-requires-2
-    (λ c. search located))  -- returns-2
+    (λ c κs. search edition)  -- check-at-by-requires
+    (λ c. search edition))  -- returns

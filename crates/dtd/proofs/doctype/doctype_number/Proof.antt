@@ -1,9 +1,6 @@
--- `dtd::doctype::doctype_number` meets its contract. Assumes nothing.
-use Rattle.spec.specs.Grammar.AppendixB.{appendix-B}
-use Rattle.spec.specs.Reading.Dtd.{check-doctype}
-use Rattle.error.proofs.Laws.{answered}
+-- `dtd::doctype::doctype_number` meets its contract. `dialect` is opened: its classes are the code's. Assumes nothing.
 use Rattle.classes.specs.Classes.{dialect}
-use Rattle.dtd.proofs.Whole.{whole}
+use Rattle.dtd.proofs.Whole.{edition}
 use Rattle.dtd.proofs.doctype.doctype_number.Statement.{statement}
 use Rattle.dtd.proofs.doctype.doctype_number.Tie as tie
 
@@ -12,6 +9,5 @@ unfolding dialect
 doctype-number-spec =
     tie.close
     (tie.spec
-    (λ c κs. search whole)  -- parse-doctype-requires
-    (λ c κs. search whole)  -- number-requires
-    (λ c. answered (check-doctype appendix-B) _ _ _ (c .before .parse-doctype .ensures) (c .number .ensures)))  -- returns
+    (λ c κs. search edition)  -- number-by-requires
+    (λ c. search edition))  -- returns
