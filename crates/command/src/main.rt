@@ -13,6 +13,7 @@ mod usage;
 mod words;
 
 use file::Filled;
+use options::Manner;
 use options::Options;
 use options::Word;
 
@@ -40,23 +41,18 @@ fn room() -> [u8; 2097153]
     [0; 2097153]
 }
 
-// How much is said.
-struct Manner {
-    quiet: bool,
-    verbose: bool,
-}
-
 // Checks one file, and answers the status that it asks for.
 fn check_file(name: &[u8], manner: Manner, held: &mut [u8], out: &mut [u8]) -> u8 {
     match file::fill(name, held, out) {
         Filled::Failed => FAILED,
         Filled::Bytes(n) => {
             let text = file::text(held, n);
-            let verdict = document::check_document(text, n <= file::HELD);
+            let names = manner.names;
+            let verdict = document::check_document(text, n <= file::HELD, names);
             if manner.quiet {
                 return status_of(verdict);
             }
-            if report::say(out, name, text, verdict, manner.verbose) {
+            if report::say(out, name, text, verdict, manner) {
                 return status_of(verdict);
             }
             unwritten()
@@ -112,8 +108,13 @@ fn named(
             status: before.status,
             ended: true,
         },
-        Word::Verbose | Word::Quiet | Word::Help | Word::Version | Word::Numbers | Word::Unknown =>
-            before,
+        Word::Verbose
+        | Word::Quiet
+        | Word::Help
+        | Word::Version
+        | Word::Numbers
+        | Word::Fifth
+        | Word::Unknown => before,
     }
 }
 
@@ -165,11 +166,7 @@ fn run(options: Options, word: &mut [u8], held: &mut [u8], out: &mut [u8]) -> u8
         usage::twice();
         return FAILED;
     }
-    let manner = Manner {
-        quiet: options.quiet,
-        verbose: options.verbose,
-    };
-    check_all(manner, word, held, out)
+    check_all(options::manner_of(options), word, held, out)
 }
 
 // Says which option is not known: argument `i`.

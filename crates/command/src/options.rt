@@ -1,5 +1,6 @@
 // The arguments that are options. They may stand before, between and after the files, and count for all of them.
 use crate::bytes;
+use classes::Names;
 
 // What an argument is.
 pub enum Word {
@@ -11,6 +12,8 @@ pub enum Word {
     Help,
     Version,
     Numbers,
+    // `--fifth-edition`.
+    Fifth,
     // `--`: every argument after it is a file.
     End,
     Unknown,
@@ -22,6 +25,7 @@ pub struct Options {
     pub help: bool,
     pub version: bool,
     pub numbers: bool,
+    pub fifth: bool,
     // Whether standard input is asked for, and whether a second time: it can be read only once.
     pub input: bool,
     pub twice: bool,
@@ -31,6 +35,26 @@ pub struct Options {
     pub file: usize,
     // Whether a `--` has come.
     pub ended: bool,
+}
+
+// By which names files are judged, and how much is said of them.
+pub struct Manner {
+    pub names: Names,
+    pub quiet: bool,
+    pub verbose: bool,
+}
+
+pub fn manner_of(options: Options) -> Manner {
+    let names = if options.fifth {
+        Names::FifthEdition
+    } else {
+        Names::AppendixB
+    };
+    Manner {
+        names,
+        quiet: options.quiet,
+        verbose: options.verbose,
+    }
 }
 
 // A `-` alone is standard input, also after `--`: a file of that name is `./-`.
@@ -60,6 +84,9 @@ fn long(word: &[u8]) -> Word {
     if bytes::same(word, b"--numbers") {
         return Word::Numbers;
     }
+    if bytes::same(word, b"--fifth-edition") {
+        return Word::Fifth;
+    }
     Word::Unknown
 }
 
@@ -83,6 +110,7 @@ pub fn read(word: &mut [u8]) -> Options {
         help: false,
         version: false,
         numbers: false,
+        fifth: false,
         input: false,
         twice: false,
         unknown: 0,
@@ -123,6 +151,9 @@ fn next(before: Options, i: usize, word: &mut [u8]) -> Options {
         }
         Word::Numbers => {
             options.numbers = true;
+        }
+        Word::Fifth => {
+            options.fifth = true;
         }
         Word::End => {
             options.ended = true;

@@ -2,6 +2,7 @@
 // may be many, take one each.
 use crate::bytes;
 use crate::escape;
+use crate::options::Manner;
 use crate::show;
 use crate::words;
 use classes::Names;
@@ -16,7 +17,7 @@ use libc::STDOUT_FILENO;
 
 // Says the verdict on the file of this name, and answers whether it could be written. What is shown begins after the byte order mark, which
 // no line or column counts.
-pub fn say(out: &mut [u8], name: &[u8], held: &[u8], given: Verdict, verbose: bool) -> bool {
+pub fn say(out: &mut [u8], name: &[u8], held: &[u8], given: Verdict, manner: Manner) -> bool {
     let mark = document::mark_length(held);
     let text = bytes::rest(held, mark);
     let verdict = unmarked(given, mark);
@@ -28,10 +29,12 @@ pub fn say(out: &mut [u8], name: &[u8], held: &[u8], given: Verdict, verbose: bo
     if !io::write_all(STDOUT_FILENO, bytes::front(out, n)) {
         return false;
     }
-    if verbose & (0 < verdict.unread) {
+    if manner.verbose & (0 < verdict.unread) {
         let start = verdict.doctype_start;
         let end = verdict.doctype_end;
-        return unread(out, name, text, start, bytes::between(text, start, end));
+        let part = bytes::between(text, start, end);
+        let names = manner.names;
+        return unread(out, name, text, start, part, names);
     }
     true
 }
@@ -76,11 +79,18 @@ fn declarations(out: &mut [u8], to: usize, count: usize) -> usize {
 
 // Where the declarations of a DOCTYPE stand that were not read. Its text is `part`, from `start` on. A step without end is ruled out by the
 // count of its bytes, which shows the prover that the loop ends.
-fn unread(out: &mut [u8], name: &[u8], text: &[u8], start: usize, part: &[u8]) -> bool {
+fn unread(
+    out: &mut [u8],
+    name: &[u8],
+    text: &[u8],
+    start: usize,
+    part: &[u8],
+    names: Names,
+) -> bool {
     let mut at = entries::first_place(part);
     let mut pe = false;
     while at < part.len() {
-        let next = entries::next_unread(part, at, pe, Names::AppendixB);
+        let next = entries::next_unread(part, at, pe, names);
         let Unread::Here(first, past, before) = next else {
             return true;
         };

@@ -8,7 +8,7 @@ use libc::STDOUT_FILENO;
 pub fn wrong() {
     io::write_all(
         STDERR_FILENO,
-        b"usage: moxkeldi [-q | -v] FILE...    (- is standard input; --help says more)\n",
+        b"usage: moxkeldi [-q | -v] [--fifth-edition] FILE...    (- is standard input; --help says more)\n",
     );
 }
 
@@ -39,7 +39,7 @@ pub fn version() -> bool {
 pub fn help() -> bool {
     io::write_all(
         STDOUT_FILENO,
-        b"usage: moxkeldi [-q | -v] FILE...
+        b"usage: moxkeldi [-q | -v] [--fifth-edition] FILE...
 
 Checks the prolog of each XML file: the XML declaration, comments,
 instructions and the DOCTYPE with its declarations, up to the root element.
@@ -52,12 +52,15 @@ and under a refusal the line in question, with a caret under the place; of
 what does not end also where it was opened. The column counts characters.
 A FILE of - is standard input.
 
-  -q         say nothing; the exit status tells
-  -v         also say where declarations were not read
-  --numbers  print the numbers and their words
-  --version  print the version
-  -h, --help print this
-  --         only files follow
+  -q               say nothing; the exit status tells
+  -v               also say where declarations were not read
+  --fifth-edition  judge by the names of XML 1.0's fifth edition; without
+                   it, and in the library's gate, names are those of the
+                   earlier editions' Appendix B
+  --numbers        print the numbers and their words
+  --version        print the version
+  -h, --help       print this
+  --               only files follow
 
 Accepted means that the prolog is as the grammar of XML 1.0 has it, in UTF-8.
 Entities are not expanded, and what follows the root's name is not looked at.

@@ -8,7 +8,7 @@ use borrow.Author.Needs.{needs}
 use lib.ListN.{length, take, drop, take-append-drop}
 use lib.Seq.{length-take-le}
 use Rattle.spec.specs.Basics.{pick}
-use Rattle.spec.specs.Grammar.AppendixB.{appendix-B}
+use Rattle.spec.specs.Grammar.Names.{Dialect}
 use Rattle.spec.specs.Grammar.Characters.{xml-char}
 use Rattle.spec.specs.Grammar.Encodings as Rule
 use Rattle.spec.specs.Grammar.Encodings.{Encoding, unnamed, class-of, coding-in}
@@ -17,7 +17,6 @@ use Rattle.spec.specs.Reading.Document.{read-declaration, legal-length, legal-p
 use Rattle.spec.specs.Reading.Readers.{Result, ok, err}
 use Rattle.spec.specs.Reading.Refusals.{Refusal, number}
 use Rattle.spec.specs.Reading.Verdict.{Verdict, accepted, refused, ended, rootless, number-in, end-refusal, verdict-in, find-encoding, unless-refused, encoding-read, by-coding, verdict}
-use Rattle.spec.proofs.Characters.AppendixB.{appendix-B-ascii}
 use Rattle.spec.proofs.Document.Legal.{legal-takes}
 use Rattle.spec.proofs.Document.Right.{accepted-stays}
 use Rattle.error.specs.Read.{said, read}
@@ -25,6 +24,9 @@ use Rattle.error.specs.declared.Answer.{Answer}
 use Rattle.error.specs.declared.Answer.the-variants.{At, No}
 use Rattle.error.proofs.Laws.{was-ok, was-err}
 use Rattle.utf8.specs.Seen.{accepts}
+use Rattle.classes.specs.Classes.{dialect}
+use Rattle.classes.specs.declared.Names.{Names}
+use Rattle.classes.proofs.ClassLaws.{dialect-ascii}
 use Rattle.encodings.specs.Codings.{of}
 use Rattle.encodings.specs.Names.{told, start-of}
 use Rattle.encodings.specs.declared.codings.Coding.{Coding}
@@ -53,7 +55,7 @@ module _ (x : List ℕ) (r : Answer) (a : said r ≡ read read-declaration x 0) 
   declared-no n k e = let (m, (j, (f, _))) = was-err read-declaration x 0 n k r a e in ap accepts (sym f)
 
 -- In one coding: e is where the part that is read ends, and j what it is judged.
-module _ (c : Coding) (whole : Bool) (w : List ℕ) (e : ℕ) (a : e ≡ legal-length (class-of (of c)) w) (j : Judged) (b : j ≡ Judgements.told (judged appendix-B (take (e - 0) (drop 0 w)))) where
+module _ (D : Dialect) (c : Coding) (whole : Bool) (w : List ℕ) (e : ℕ) (a : e ≡ legal-length (class-of (of c)) w) (j : Judged) (b : j ≡ Judgements.told (judged D (take (e - 0) (drop 0 w)))) where
   abbrev end : Refusal
   end = end-refusal (of c) whole w
 
@@ -63,12 +65,12 @@ module _ (c : Coding) (whole : Bool) (w : List ℕ) (e : ℕ) (a : e ≡ legal-l
   part-size : length (legal-part (class-of (of c)) w) ≡ e
   part-size = length-take-le (legal-length (class-of (of c)) w) w (legal-takes (class-of (of c)) w .within) ∙ sym a
 
-  full : verdict-in appendix-B (of c) whole w ≡ in-full end e (judged appendix-B (take (e - 0) (drop 0 w)))
-  full = verdict-judged appendix-B (of c) whole w ∙ (λ i. in-full end (part-size i) (judged appendix-B (sym part-is i)))
+  full : verdict-in D (of c) whole w ≡ in-full end e (judged D (take (e - 0) (drop 0 w)))
+  full = verdict-judged D (of c) whole w ∙ (λ i. in-full end (part-size i) (judged D (sym part-is i)))
 
-  pub in-accepted : (k : ℕ) (h : Bool) (i m : ℕ) → j ≡ J.Accepted k h i m → Accepted k h i m ≡ found (verdict-in appendix-B (of c) whole w)
+  pub in-accepted : (k : ℕ) (h : Bool) (i m : ℕ) → j ≡ J.Accepted k h i m → Accepted k h i m ≡ found (verdict-in D (of c) whole w)
   unfolding Judgements.told found
-  in-accepted k h i m f = go (judged appendix-B (take (e - 0) (drop 0 w))) (sym f ∙ b) ∙ sym (ap found full)
+  in-accepted k h i m f = go (judged D (take (e - 0) (drop 0 w))) (sym f ∙ b) ∙ sym (ap found full)
     where
       go : (y : Judgement) → J.Accepted k h i m ≡ Judgements.told y → Accepted k h i m ≡ found (in-full end e y)
       go (accepts-all l no-doctype) g = let u : k ≡ l = cc in let v : h ≡ false = cc in let p : i ≡ 0 = cc in let q : m ≡ 0 = cc in (rw (u, v, p, q))
@@ -77,9 +79,9 @@ module _ (c : Coding) (whole : Bool) (w : List ℕ) (e : ℕ) (a : e ≡ legal-l
       go (ends l) g = let z : _≡_ {A = ℕ} 0 1 = cc in absurd (omega arith)
       go lacks-root g = let z : _≡_ {A = ℕ} 0 1 = cc in absurd (omega arith)
 
-  pub in-refused : (n k : ℕ) → j ≡ J.Refused n k → Refused n k ≡ found (verdict-in appendix-B (of c) whole w)
+  pub in-refused : (n k : ℕ) → j ≡ J.Refused n k → Refused n k ≡ found (verdict-in D (of c) whole w)
   unfolding Judgements.told found
-  in-refused n k f = go (judged appendix-B (take (e - 0) (drop 0 w))) (sym f ∙ b) ∙ sym (ap found full)
+  in-refused n k f = go (judged D (take (e - 0) (drop 0 w))) (sym f ∙ b) ∙ sym (ap found full)
     where
       go : (y : Judgement) → J.Refused n k ≡ Judgements.told y → Refused n k ≡ found (in-full end e y)
       go (accepts-all l no-doctype) g = let z : _≡_ {A = ℕ} 0 1 = cc in absurd (omega arith)
@@ -89,9 +91,9 @@ module _ (c : Coding) (whole : Bool) (w : List ℕ) (e : ℕ) (a : e ≡ legal-l
       go lacks-root g = let z : _≡_ {A = ℕ} 0 1 = cc in absurd (omega arith)
 
   module _ (n : ℕ) (d : n ≡ number (end-refusal (of c) whole w)) where
-    pub in-ended : (k : ℕ) → j ≡ J.Ended k → Ended n k e ≡ found (verdict-in appendix-B (of c) whole w)
+    pub in-ended : (k : ℕ) → j ≡ J.Ended k → Ended n k e ≡ found (verdict-in D (of c) whole w)
     unfolding Judgements.told found
-    in-ended k f = go (judged appendix-B (take (e - 0) (drop 0 w))) (sym f ∙ b) ∙ sym (ap found full)
+    in-ended k f = go (judged D (take (e - 0) (drop 0 w))) (sym f ∙ b) ∙ sym (ap found full)
       where
         go : (y : Judgement) → J.Ended k ≡ Judgements.told y → Ended n k e ≡ found (in-full end e y)
         go (accepts-all l no-doctype) g = let z : _≡_ {A = ℕ} 0 1 = cc in absurd (omega arith)
@@ -100,9 +102,9 @@ module _ (c : Coding) (whole : Bool) (w : List ℕ) (e : ℕ) (a : e ≡ legal-l
         go (ends l) g = let u : k ≡ l = cc in (rw (d, u))
         go lacks-root g = let z : _≡_ {A = ℕ} 0 1 = cc in absurd (omega arith)
 
-    pub in-rootless : j ≡ J.Rootless → Rootless n e ≡ found (verdict-in appendix-B (of c) whole w)
+    pub in-rootless : j ≡ J.Rootless → Rootless n e ≡ found (verdict-in D (of c) whole w)
     unfolding Judgements.told found
-    in-rootless f = go (judged appendix-B (take (e - 0) (drop 0 w))) (sym f ∙ b) ∙ sym (ap found full)
+    in-rootless f = go (judged D (take (e - 0) (drop 0 w))) (sym f ∙ b) ∙ sym (ap found full)
       where
         go : (y : Judgement) → J.Rootless ≡ Judgements.told y → Rootless n e ≡ found (in-full end e y)
         go (accepts-all l no-doctype) g = let z : _≡_ {A = ℕ} 0 1 = cc in absurd (omega arith)
@@ -129,21 +131,21 @@ module _ (whole : Bool) (w : List ℕ) (e : ℕ) (a : e ≡ legal-length (class-
   code-is : coding-in (encoding-read w) ≡ of c
   code-is = ap coding-in (sym read-is) ∙ sym f
 
-  pub named-utf8 : (q : Finding) → c ≡ Utf8 → q ≡ found (verdict-in appendix-B (of Utf8) whole w) → q ≡ found (verdict appendix-B whole w)
+  pub named-utf8 : (D : Dialect) (q : Finding) → c ≡ Utf8 → q ≡ found (verdict-in D (of Utf8) whole w) → q ≡ found (verdict D whole w)
   unfolding verdict of
-  named-utf8 q g h = h ∙ sym (ap (λ (k : Rule.Coding). found (by-coding appendix-B whole w (encoding-read w) k)) (code-is ∙ ap of g))
+  named-utf8 D q g h = h ∙ sym (ap (λ (k : Rule.Coding). found (by-coding D whole w (encoding-read w) k)) (code-is ∙ ap of g))
 
-  pub named-bytes : (q : Finding) → c ≡ Bytes → q ≡ found (verdict-in appendix-B (of Bytes) whole w) → q ≡ found (verdict appendix-B whole w)
+  pub named-bytes : (D : Dialect) (q : Finding) → c ≡ Bytes → q ≡ found (verdict-in D (of Bytes) whole w) → q ≡ found (verdict D whole w)
   unfolding verdict of
-  named-bytes q g h = h ∙ sym (ap (λ (k : Rule.Coding). found (by-coding appendix-B whole w (encoding-read w) k)) (code-is ∙ ap of g))
+  named-bytes D q g h = h ∙ sym (ap (λ (k : Rule.Coding). found (by-coding D whole w (encoding-read w) k)) (code-is ∙ ap of g))
 
-  pub named-foreign : (k : ℕ) → c ≡ Foreign → k ≡ start-of m → Refused 2 k ≡ found (verdict appendix-B whole w)
+  pub named-foreign : (D : Dialect) (k : ℕ) → c ≡ Foreign → k ≡ start-of m → Refused 2 k ≡ found (verdict D whole w)
   unfolding verdict of found told
-  named-foreign k g h =
-      go m h ∙ sym (ap (λ (y : Rule.Coding). found (by-coding appendix-B whole w (told (take (e - 0) (drop 0 w)) m) y)) (code-is ∙ ap of g))
-      ∙ ap (λ (y : Encoding). found (by-coding appendix-B whole w y (coding-in (encoding-read w)))) read-is
+  named-foreign D k g h =
+      go m h ∙ sym (ap (λ (y : Rule.Coding). found (by-coding D whole w (told (take (e - 0) (drop 0 w)) m) y)) (code-is ∙ ap of g))
+      ∙ ap (λ (y : Encoding). found (by-coding D whole w y (coding-in (encoding-read w)))) read-is
     where
-      go : (m : Named) → k ≡ start-of m → Refused 2 k ≡ found (by-coding appendix-B whole w (told (take (e - 0) (drop 0 w)) m) Rule.foreign)
+      go : (m : Named) → k ≡ start-of m → Refused 2 k ≡ found (by-coding D whole w (told (take (e - 0) (drop 0 w)) m) Rule.foreign)
       go Unnamed i = ap (Refused 2) i
       go (Name s l) i = ap (Refused 2) i
 
@@ -155,10 +157,10 @@ found-zero (refused r k) e = absurd (true≢false e)
 found-zero (ended r i j) e = absurd (true≢false e)
 found-zero (rootless r k) e = absurd (true≢false e)
 
-pub front-stands : (whole : Bool) (w : List ℕ) (n : ℕ) (f : Finding) (t : Bool) → f ≡ found (verdict appendix-B false (take (n - 0) (drop 0 w))) → t ≡ is-accepted f → t ≡ true → f ≡ found (verdict appendix-B whole w)
-front-stands whole w n f t a b e =
-    let z : number-in (verdict appendix-B false (take n w)) ≡ 0 = found-zero (verdict appendix-B false (take n w)) (sym e ∙ b ∙ ap is-accepted a ∙ ap (λ (x : List ℕ). is-accepted (found (verdict appendix-B false x))) (front-part n w)) in
-    a ∙ ap (λ (x : List ℕ). found (verdict appendix-B false x)) (front-part n w) ∙ ap found (sym (accepted-stays appendix-B appendix-B-ascii false whole (take n w) (drop n w) z) ∙ ap (verdict appendix-B whole) (take-append-drop n w))
+pub front-stands : (names : Names) (whole : Bool) (w : List ℕ) (n : ℕ) (f : Finding) (t : Bool) → f ≡ found (verdict (dialect names) false (take (n - 0) (drop 0 w))) → t ≡ is-accepted f → t ≡ true → f ≡ found (verdict (dialect names) whole w)
+front-stands names whole w n f t a b e =
+    let z : number-in (verdict (dialect names) false (take n w)) ≡ 0 = found-zero (verdict (dialect names) false (take n w)) (sym e ∙ b ∙ ap is-accepted a ∙ ap (λ (x : List ℕ). is-accepted (found (verdict (dialect names) false x))) (front-part n w)) in
+    a ∙ ap (λ (x : List ℕ). found (verdict (dialect names) false x)) (front-part n w) ∙ ap found (sym (accepted-stays (dialect names) (dialect-ascii names) false whole (take n w) (drop n w) z) ∙ ap (verdict (dialect names) whole) (take-append-drop n w))
 
 -- where a part ends, the text goes on or ends
 pub legal-within : (c : Coding) (w : List ℕ) (e : ℕ) → e ≡ legal-length (class-of (of c)) w → e ≤ length w

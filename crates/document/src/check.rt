@@ -13,6 +13,7 @@ use search::at_keyword;
 ghost use mathlib.Core.Path.{_≡_};
 ghost use Rattle.spec.specs.Reading.Verdict.{mark-length};
 ghost use Rattle.spec.specs.Grammar.Encodings.{looks-like};
+ghost use Rattle.classes.specs.Classes.{dialect};
 ghost use Rattle.document.specs.Judges.{further-by, unread-between, refused-as, accepted-as, spelled, is-wide, Judges};
 
 // The byte order mark of UTF-8 has so many bytes.
@@ -50,8 +51,8 @@ fn further(k: usize, marked: bool) -> usize
 }
 
 // How many declarations go unread in the DOCTYPE's text between two places. No place lies outside; the tests show that to the prover.
-fn unread_in(t: &[u8], a: usize, b: usize) -> usize
-    ensures { λ r. ⌜ r ≡ unread-between (now (t .entry)) a b ⌝ }
+fn unread_in(t: &[u8], a: usize, b: usize, names: Names) -> usize
+    ensures { λ r. ⌜ r ≡ unread-between (dialect names) (now (t .entry)) a b ⌝ }
 {
     if t.len() < b {
         return 0;
@@ -59,7 +60,7 @@ fn unread_in(t: &[u8], a: usize, b: usize) -> usize
     if b < a {
         return 0;
     }
-    count_unread(&t[a..b], Names::AppendixB)
+    count_unread(&t[a..b], names)
 }
 
 fn refused(t: &[u8], marked: bool, number: u8, opened: usize, place: usize) -> Verdict
@@ -78,8 +79,8 @@ fn refused(t: &[u8], marked: bool, number: u8, opened: usize, place: usize) -> V
     }
 }
 
-fn accepted(t: &[u8], marked: bool, root: usize, a: usize, b: usize) -> Verdict
-    ensures { λ r. ⌜ r ≡ accepted-as (now (t .entry)) marked root a b ⌝ }
+fn accepted(t: &[u8], marked: bool, root: usize, a: usize, b: usize, names: Names) -> Verdict
+    ensures { λ r. ⌜ r ≡ accepted-as (dialect names) (now (t .entry)) marked root a b ⌝ }
 {
     Verdict {
         number: ACCEPTED,
@@ -90,18 +91,18 @@ fn accepted(t: &[u8], marked: bool, root: usize, a: usize, b: usize) -> Verdict
         has_doctype: true,
         doctype_start: further(a, marked),
         doctype_end: further(b, marked),
-        unread: unread_in(t, a, b),
+        unread: unread_in(t, a, b, names),
     }
 }
 
 // What is found of a text, in full.
-fn spell(t: &[u8], marked: bool, finding: Finding) -> Verdict
-    ensures { λ r. ⌜ r ≡ spelled (now (t .entry)) marked finding ⌝ }
+fn spell(t: &[u8], marked: bool, finding: Finding, names: Names) -> Verdict
+    ensures { λ r. ⌜ r ≡ spelled (dialect names) (now (t .entry)) marked finding ⌝ }
 {
     match finding {
         Finding::Accepted(k, has, a, b) => {
             if has {
-                return accepted(t, marked, k, a, b);
+                return accepted(t, marked, k, a, b, names);
             }
             refused(t, marked, ACCEPTED, k, k)
         }
@@ -135,18 +136,18 @@ pub fn mark_length(text: &[u8]) -> usize
     0
 }
 
-// The verdict on a document of which the text is all, or the beginning.
-pub fn check_document(text: &[u8], whole: bool) -> Verdict
-    ensures { λ r. ⌜ Judges whole (now (text .entry)) r ⌝ }
+// The verdict on a document of which the text is all, or the beginning, by these names.
+pub fn check_document(text: &[u8], whole: bool, names: Names) -> Verdict
+    ensures { λ r. ⌜ Judges (dialect names) whole (now (text .entry)) r ⌝ }
 {
     if is_wide(text) {
         return refused(text, false, NOT_UTF8, 0, 0);
     }
     let mark = mark_length(text);
     if mark == 0 {
-        let found = find(text, whole);
-        return spell(text, false, found);
+        let found = find(text, whole, names);
+        return spell(text, false, found, names);
     }
-    let found = find(&text[MARK..], whole);
-    spell(&text[MARK..], true, found)
+    let found = find(&text[MARK..], whole, names);
+    spell(&text[MARK..], true, found, names)
 }

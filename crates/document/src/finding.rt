@@ -12,10 +12,10 @@ use encodings::legal_end;
 use error::Answer;
 use error::NOT_UTF8;
 ghost use mathlib.Core.Path.{_≡_};
-ghost use Rattle.spec.specs.Grammar.AppendixB.{appendix-B};
 ghost use Rattle.spec.specs.Reading.Document.{read-declaration};
 ghost use Rattle.spec.specs.Reading.Verdict.{verdict-in, verdict};
 ghost use Rattle.utf8.specs.Seen.{accepts};
+ghost use Rattle.classes.specs.Classes.{dialect};
 ghost use Rattle.encodings.specs.Codings.{of};
 ghost use Rattle.encodings.specs.Names.{start-of};
 ghost use Rattle.document.specs.Findings.{found, is-accepted};
@@ -33,11 +33,11 @@ pub enum Finding {
 }
 
 // In one coding: of the text only the part is read that consists of its characters.
-fn find_in(text: &[u8], coding: Coding, whole: bool) -> Finding
-    ensures { λ r. ⌜ r ≡ found (verdict-in appendix-B (of coding) whole (now (text .entry))) ⌝ }
+fn find_in(text: &[u8], coding: Coding, whole: bool, names: Names) -> Finding
+    ensures { λ r. ⌜ r ≡ found (verdict-in (dialect names) (of coding) whole (now (text .entry))) ⌝ }
 {
     let e = legal_end(text, coding);
-    let j = judge(&text[0..e], Names::AppendixB);
+    let j = judge(&text[0..e], names);
     match j {
         Judged::Accepted(k, has, a, b) => Finding::Accepted(k, has, a, b),
         Judged::Refused(n, k) => Finding::Refused(n, k),
@@ -68,8 +68,8 @@ fn name_start(name: Named) -> usize
 }
 
 // In the coding that it names. One that names another is read otherwise by whoever follows, so it is refused where it names it.
-fn find_named(text: &[u8], whole: bool) -> Finding
-    ensures { λ r. ⌜ r ≡ found (verdict appendix-B whole (now (text .entry))) ⌝ }
+fn find_named(text: &[u8], whole: bool, names: Names) -> Finding
+    ensures { λ r. ⌜ r ≡ found (verdict (dialect names) whole (now (text .entry))) ⌝ }
 {
     let e = legal_end(text, Coding::Utf8);
     let declared = is_declared(&text[0..e]);
@@ -77,8 +77,8 @@ fn find_named(text: &[u8], whole: bool) -> Finding
     let coding = coding_in(&text[0..e], name);
     match coding {
         Coding::Foreign => Finding::Refused(NOT_UTF8, name_start(name)),
-        Coding::Utf8 => find_in(text, Coding::Utf8, whole),
-        Coding::Bytes => find_in(text, Coding::Bytes, whole),
+        Coding::Utf8 => find_in(text, Coding::Utf8, whole, names),
+        Coding::Bytes => find_in(text, Coding::Bytes, whole, names),
     }
 }
 
@@ -94,14 +94,14 @@ fn is_accepted(finding: Finding) -> bool
 }
 
 // A document of which the text is all, or the beginning.
-pub fn find(text: &[u8], whole: bool) -> Finding
-    ensures { λ r. ⌜ r ≡ found (verdict appendix-B whole (now (text .entry))) ⌝ }
+pub fn find(text: &[u8], whole: bool, names: Names) -> Finding
+    ensures { λ r. ⌜ r ≡ found (verdict (dialect names) whole (now (text .entry))) ⌝ }
 {
     if FRONT < text.len() {
-        let f = find_named(&text[0..FRONT], false);
+        let f = find_named(&text[0..FRONT], false, names);
         if is_accepted(f) {
             return f;
         }
     }
-    find_named(text, whole)
+    find_named(text, whole, names)
 }

@@ -3,6 +3,7 @@ use mathlib.Core.Path.{_≡_}
 use mathlib.Core.Bool.{Bool, true, false}
 use mathlib.Core.List.{List, [], _∷_}
 use Prim.Native.Nat.{ℕ}
+use Rattle.spec.specs.Grammar.Names.{Dialect}
 use Rattle.spec.specs.Reading.Scan.{not-opened, not-closed, closed}
 use Rattle.scan.specs.Answers.{Gives, gives, gives-none, scan-number, scan-gives, Scans}
 use Rattle.scan.specs.declared.calls.Scanned.{Scanned}
@@ -50,10 +51,15 @@ abbrev pub bit : Bool → ℕ
 bit true = 1
 bit false = 0
 
--- moxkeldi_check_document returns n and leaves these numbers in *verdict: the promise of the check of a document that is at hand as a whole, field
--- by field in the order of the struct
-pub record JudgesInto (w : List ℕ) (n : ℕ) (fields : List ℕ) : Type 0 where
+-- a verdict's fields, in the order of the struct
+unfoldable pub fields-of : Verdict → List ℕ
+fields-of v =
+    v .place ∷ v .line ∷ v .column ∷ v .opened ∷ bit (v .«has_doctype») ∷ v .«doctype_start» ∷ v .«doctype_end» ∷ v .unread ∷ []
+
+-- moxkeldi_check_document, or that of another edition's names, returns n and leaves these numbers in *verdict: the promise of the check of a
+-- document that is at hand as a whole
+pub record JudgesInto (D : Dialect) (w : List ℕ) (n : ℕ) (fields : List ℕ) : Type 0 where
   pub verdict : Verdict
-  pub judges : Judges true w verdict
+  pub judges : Judges D true w verdict
   pub number : n ≡ verdict .number
-  pub told : fields ≡ verdict .place ∷ verdict .line ∷ verdict .column ∷ verdict .opened ∷ bit (verdict .«has_doctype») ∷ verdict .«doctype_start» ∷ verdict .«doctype_end» ∷ verdict .unread ∷ []
+  pub told : fields ≡ fields-of verdict

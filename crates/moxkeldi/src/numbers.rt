@@ -1,6 +1,7 @@
 // The checks, which answer with a number of the table of docs/SCOPE.md.
 ghost use Rattle.spec.specs.Grammar.AppendixB.{appendix-B};
 ghost use Rattle.spec.specs.Grammar.Characters.{Chars};
+ghost use Rattle.spec.specs.Grammar.FifthEdition.{fifth-edition};
 ghost use Rattle.spec.specs.Grammar.Names.{Name};
 ghost use Rattle.spec.specs.Grammar.References.{Referred, CharData, AttText};
 ghost use Rattle.spec.specs.Grammar.XmlDecl.{XMLDecl};
@@ -48,6 +49,20 @@ pub extern "C" fn moxkeldi_check_doctype(text: &[u8]) -> u8
     ensures { λ r. ⌜ ChecksDoctype appendix-B (now (text .entry)) r ⌝ }
 {
     dtd::check_doctype(text)
+}
+
+#[no_mangle]
+pub extern "C" fn moxkeldi_check_name_fifth(text: &[u8]) -> u8
+    ensures { λ r. ⌜ Checks (check-name fifth-edition) (Name fifth-edition) (now (text .entry)) r ⌝ }
+{
+    names::check_name_fifth(text)
+}
+
+#[no_mangle]
+pub extern "C" fn moxkeldi_check_doctype_fifth(text: &[u8]) -> u8
+    ensures { λ r. ⌜ ChecksDoctype fifth-edition (now (text .entry)) r ⌝ }
+{
+    dtd::check_doctype_fifth(text)
 }
 
 #[no_mangle]

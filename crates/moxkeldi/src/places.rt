@@ -1,5 +1,6 @@
 // The checks once more, with the place where reading stopped: the place of the refusal, or the text's end.
 ghost use Rattle.spec.specs.Grammar.AppendixB.{appendix-B};
+ghost use Rattle.spec.specs.Grammar.FifthEdition.{fifth-edition};
 ghost use Rattle.spec.specs.Reading.Checks.{check-declaration};
 ghost use Rattle.spec.specs.Reading.Dtd.{check-doctype};
 ghost use Rattle.spec.specs.Reading.Wellformed.{check-chars, check-char-refs, check-text, check-attr-value, check-name};
@@ -55,6 +56,24 @@ pub extern "C" fn moxkeldi_check_doctype_at(text: &[u8], place: &mut usize) -> u
     ensures { λ r. ⌜ Stops (check-doctype appendix-B) (now (text .entry)) r (now (place .exit)) ⌝ }
 {
     let stop = dtd::check_doctype_at(text);
+    *place = stop.place;
+    stop.number
+}
+
+#[no_mangle]
+pub extern "C" fn moxkeldi_check_name_fifth_at(text: &[u8], place: &mut usize) -> u8
+    ensures { λ r. ⌜ Stops (check-name fifth-edition) (now (text .entry)) r (now (place .exit)) ⌝ }
+{
+    let stop = names::check_name_fifth_at(text);
+    *place = stop.place;
+    stop.number
+}
+
+#[no_mangle]
+pub extern "C" fn moxkeldi_check_doctype_fifth_at(text: &[u8], place: &mut usize) -> u8
+    ensures { λ r. ⌜ Stops (check-doctype fifth-edition) (now (text .entry)) r (now (place .exit)) ⌝ }
+{
+    let stop = dtd::check_doctype_fifth_at(text);
     *place = stop.place;
     stop.number
 }

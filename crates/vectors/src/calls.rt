@@ -10,7 +10,10 @@ use scan::Scanned;
 // cursors.rt where it reads any bytes.
 pub fn reply(word: &[u8], text: &[u8]) -> Reply {
     if bytes::same(word, b"check_document") {
-        return Reply::Told(document::check_document(text, true));
+        return Reply::Told(document::check_document(text, true, Names::AppendixB));
+    }
+    if bytes::same(word, b"check_document_fifth") {
+        return Reply::Told(document::check_document(text, true, Names::FifthEdition));
     }
     if bytes::same(word, b"utf8") {
         let verdict = source::is_utf8(text);
@@ -35,6 +38,12 @@ fn number(word: &[u8], text: &[u8]) -> Reply {
     }
     if bytes::same(word, b"check_name") {
         return Reply::Number(names::check_name(text));
+    }
+    if bytes::same(word, b"check_doctype_fifth") {
+        return Reply::Number(dtd::check_doctype_fifth(text));
+    }
+    if bytes::same(word, b"check_name_fifth") {
+        return Reply::Number(names::check_name_fifth(text));
     }
     if bytes::same(word, b"check_declaration") {
         return Reply::Number(checks::check_declaration(text));

@@ -11,6 +11,12 @@ pub fn reply(word: &[u8], text: &[u8]) -> Reply {
     if bytes::same(word, b"check_name_at") {
         return placed(names::check_name_at(text));
     }
+    if bytes::same(word, b"check_doctype_fifth_at") {
+        return placed(dtd::check_doctype_fifth_at(text));
+    }
+    if bytes::same(word, b"check_name_fifth_at") {
+        return placed(names::check_name_fifth_at(text));
+    }
     if bytes::same(word, b"check_declaration_at") {
         return placed(checks::check_declaration_at(text));
     }

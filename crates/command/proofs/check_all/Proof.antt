@@ -8,10 +8,10 @@ use Rattle.command.proofs.check_all.Statement.{statement}
 use Rattle.command.proofs.check_all.Tie as tie
 
 abbrev Inv-loop : tie.InvT-loop
-Inv-loop verbose word₀ held₀ out₀ count progress₀ i₀ word held out progress i = (length word ≡ length word₀) × (length held ≡ length held₀) × (length out ≡ length out₀)
+Inv-loop manner word₀ held₀ out₀ count progress₀ i₀ word held out progress i = (length word ≡ length word₀) × (length held ≡ length held₀) × (length out ≡ length out₀)
 
 abbrev μ-loop : tie.MeasureT-loop
-μ-loop verbose word₀ held₀ out₀ count progress₀ i₀ word held out progress i = count - i
+μ-loop manner word₀ held₀ out₀ count progress₀ i₀ word held out progress i = count - i
 
 pub check-all-spec : {M : Type 1} → statement M
 check-all-spec =

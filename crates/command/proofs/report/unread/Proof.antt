@@ -7,10 +7,10 @@ use Rattle.command.proofs.report.unread.Statement.{statement}
 use Rattle.command.proofs.report.unread.Tie as tie
 
 abbrev Inv-loop : tie.InvT-loop
-Inv-loop out₀ name text start part at₀ pe₀ out at pe = length out ≡ length out₀
+Inv-loop out₀ name text start part names at₀ pe₀ out at pe = length out ≡ length out₀
 
 abbrev μ-loop : tie.MeasureT-loop
-μ-loop out₀ name text start part at₀ pe₀ out at pe = length part - at
+μ-loop out₀ name text start part names at₀ pe₀ out at pe = length part - at
 
 pub unread-spec : {M : Type 1} → statement M
 unread-spec =

@@ -1,11 +1,9 @@
 -- `document::check::unread_in` meets its contract. Assumes nothing.
-use Rattle.classes.specs.Classes.{dialect}
 use Rattle.document.proofs.Checking.{checking}
 use Rattle.document.proofs.check.unread_in.Statement.{statement}
 use Rattle.document.proofs.check.unread_in.Tie as tie
 
 pub unread-in-spec : {M : Type 1} → statement M
-unfolding dialect
 unread-in-spec =
     tie.close
     (tie.spec

@@ -1,11 +1,9 @@
 -- `document::finding::find_in` meets its contract. Assumes nothing.
-use Rattle.classes.specs.Classes.{dialect}
 use Rattle.document.proofs.Findings.{finding}
 use Rattle.document.proofs.finding.find_in.Statement.{statement}
 use Rattle.document.proofs.finding.find_in.Tie as tie
 
 pub find-in-spec : {M : Type 1} → statement M
-unfolding dialect
 find-in-spec =
     tie.close
     (tie.spec
