@@ -33,7 +33,7 @@ common-letter c =
 
 -- the fifth edition: the two widest ranges of NameStartChar and its last, which begins at 2^16; and all of its ranges but that last
 abbrev pub wide-ranges : ℕ → Bool
-wide-ranges c = within 0x3001 0xD7FF c || within 0x37F 0x1FFF c || within 0x10000 0xEFFFF c
+wide-ranges c = within 0x10000 0xEFFFF c || within 0x3001 0xD7FF c || within 0x37F 0x1FFF c
 
 abbrev pub low-starts : List ℕ
 low-starts = take 30 name-start-chars

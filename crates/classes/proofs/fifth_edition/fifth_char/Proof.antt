@@ -7,9 +7,7 @@ pub fifth-char-spec : {M : Type 1} → statement M
 fifth-char-spec =
     tie.close
     (tie.spec
-    (λ c κs. search classes)  -- fifth-start-requires
+    (λ c κs. search classes)  -- in-wide-range-requires
     (λ c. search classes)  -- returns
-    (λ c. search classes)  -- returns-2
-    (λ c. search classes)  -- cast-is-added
-    (λ c κs. search classes)  -- is-added-requires
-    (λ c. search classes))  -- returns-3
+    (λ c κs. search classes)  -- rare-char-requires
+    (λ c. search classes))  -- returns-2

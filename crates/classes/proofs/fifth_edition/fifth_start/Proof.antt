@@ -9,7 +9,5 @@ fifth-start-spec =
     (tie.spec
     (λ c κs. search classes)  -- in-wide-range-requires
     (λ c. search classes)  -- returns
-    (λ c. search classes)  -- returns-2
-    (λ c. search classes)  -- cast-is-low-start
-    (λ c κs. search classes)  -- is-low-start-requires
-    (λ c. search classes))  -- returns-3
+    (λ c κs. search classes)  -- rare-start-requires
+    (λ c. search classes))  -- returns-2
