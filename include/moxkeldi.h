@@ -1,7 +1,8 @@
 /*
  * Moxkeldi: checks of an XML document's prolog: its XML declaration, its DOCTYPE, and what stands around them.
  *
- * To check a document, call moxkeldi_check_document. The other calls are for those who have cut a document into its parts already.
+ * To check a document, call moxkeldi_check_document, or moxkeldi_check_document_fifth where its names need the letters of XML 1.0's fifth
+ * edition. The other calls are for those who have cut a document into its parts already.
  *
  * Link with libmoxkeldi.a (x86-64 Linux), which `rt staticlib moxkeldi` writes to target/staticlib/. It needs no other library.
  *
@@ -137,6 +138,18 @@ typedef struct {
 MOXKELDI_MUST_USE uint8_t moxkeldi_check_document(const uint8_t *text, size_t len, moxkeldi_verdict *verdict);
 
 /*
+ * The same by the names of XML 1.0's fifth edition. What follows is said of every call with _fifth: it is the call of the same name
+ * without _fifth, but a name is what productions 4, 4a and 5 of the fifth edition say, where the other calls go by Appendix B of the
+ * earlier editions. That is many more scripts, among them Ethiopic, Khmer and Cherokee, and all of U+10000 to U+EFFFF. Use it where
+ * names need these and the programs that read the document afterwards know them too; one that goes by the earlier editions does not.
+ *
+ * What the call without _fifth accepts, the one with it accepts too. It may read less of it: a declaration with a % directly before a
+ * letter that only the fifth edition has is only delimited there, since a parameter entity may be meant. The gate (moxkeldi_decl and
+ * moxkeldi_doctype) and moxkeldi_is_ncname stay on Appendix B.
+ */
+MOXKELDI_MUST_USE uint8_t moxkeldi_check_document_fifth(const uint8_t *text, size_t len, moxkeldi_verdict *verdict);
+
+/*
  * The checks of a document's parts. The answer is 0 (accepted) or one of 1 to 20.
  */
 
@@ -152,12 +165,14 @@ MOXKELDI_MUST_USE uint8_t moxkeldi_check_attr_value(const uint8_t *text, size_t 
 /* Only the character references (&#65; &#x41;) of a text. */
 MOXKELDI_MUST_USE uint8_t moxkeldi_check_char_refs(const uint8_t *text, size_t len);
 
-/* The whole text is one name (production 5), with the letters of XML 1.0's Appendix B. */
+/* The whole text is one name (production 5), with the letters of XML 1.0's Appendix B or of its fifth edition. */
 MOXKELDI_MUST_USE uint8_t moxkeldi_check_name(const uint8_t *text, size_t len);
+MOXKELDI_MUST_USE uint8_t moxkeldi_check_name_fifth(const uint8_t *text, size_t len);
 
 /* A DOCTYPE: the text between `<!DOCTYPE` and its closing `>`, with the internal subset and every declaration in it.
-   It does not look for characters that XML does not allow; moxkeldi_doctype below does. */
+   It does not look for characters that XML does not allow; moxkeldi_check_chars does. moxkeldi_doctype below makes both checks. */
 MOXKELDI_MUST_USE uint8_t moxkeldi_check_doctype(const uint8_t *text, size_t len);
+MOXKELDI_MUST_USE uint8_t moxkeldi_check_doctype_fifth(const uint8_t *text, size_t len);
 
 /* An XML declaration: the text between `<?` and `?>`, as in  xml version="1.0" encoding="UTF-8"  */
 MOXKELDI_MUST_USE uint8_t moxkeldi_check_declaration(const uint8_t *text, size_t len);
@@ -177,7 +192,9 @@ MOXKELDI_MUST_USE uint8_t moxkeldi_check_text_at(const uint8_t *text, size_t len
 MOXKELDI_MUST_USE uint8_t moxkeldi_check_attr_value_at(const uint8_t *text, size_t len, size_t *place);
 MOXKELDI_MUST_USE uint8_t moxkeldi_check_char_refs_at(const uint8_t *text, size_t len, size_t *place);
 MOXKELDI_MUST_USE uint8_t moxkeldi_check_name_at(const uint8_t *text, size_t len, size_t *place);
+MOXKELDI_MUST_USE uint8_t moxkeldi_check_name_fifth_at(const uint8_t *text, size_t len, size_t *place);
 MOXKELDI_MUST_USE uint8_t moxkeldi_check_doctype_at(const uint8_t *text, size_t len, size_t *place);
+MOXKELDI_MUST_USE uint8_t moxkeldi_check_doctype_fifth_at(const uint8_t *text, size_t len, size_t *place);
 MOXKELDI_MUST_USE uint8_t moxkeldi_check_declaration_at(const uint8_t *text, size_t len, size_t *place);
 
 /* Whether the whole text is a name without a colon. The answer is 0, 1 or 2; *yes is true or false with 0, and false with 1 and 2. */
@@ -197,7 +214,7 @@ MOXKELDI_MUST_USE uint8_t moxkeldi_scan(const uint8_t *text, size_t len, uint8_t
 
 /*
  * The gate: one record for each document, all zero to begin with, and lent to both calls in the order in which the declaration
- * and the DOCTYPE stand in the document.
+ * and the DOCTYPE stand in the document. Names are those of Appendix B.
  */
 typedef struct {
     bool started;     /* a call has looked at its text: an XML declaration can no longer be first */

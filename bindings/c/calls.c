@@ -40,6 +40,20 @@ static void checked(const char *call, check *function, const char *text, size_t 
 
 #define CHECK(call, text, wanted) checked(#call, moxkeldi_##call, text, sizeof(text) - 1, wanted)
 
+/* By the names of Appendix B, and by those of the fifth edition. */
+#define BY_EDITION(call, text, by_appendix_b, by_fifth) (CHECK(call, text, by_appendix_b), CHECK(call##_fifth, text, by_fifth))
+
+/* A text with the same answer by both: so what the one accepts, the other is seen to accept. */
+#define BY_BOTH(call, text, wanted) BY_EDITION(call, text, wanted, wanted)
+
+/* Characters that no name by Appendix B has. By the fifth edition: */
+#define CHEROKEE "\xe1\x8e\xa0"   /* U+13A0 */
+#define ASTRAL "\xf0\x90\x80\x80" /* U+10000, the first beyond 16 bits */
+#define LAST "\xf3\xaf\xbf\xbf"   /* U+EFFFF, the last that a name may hold */
+#define TIE "\xe2\x80\xbf"        /* U+203F, which a name may hold but not begin with */
+#define BEYOND "\xf3\xb0\x80\x80" /* U+F0000, in no name */
+#define TIMES "\xc3\x97"          /* U+00D7, in no name */
+
 static void checks(void)
 {
     CHECK(check_chars, "", MOXKELDI_ACCEPTED);
@@ -63,27 +77,29 @@ static void checks(void)
     CHECK(check_char_refs, "&#6", MOXKELDI_BAD_REFERENCE);
     CHECK(check_char_refs, "&", MOXKELDI_ACCEPTED);
 
-    CHECK(check_name, "a:b", MOXKELDI_ACCEPTED);
-    CHECK(check_name, "\xc3\xa9t\xc3\xa9", MOXKELDI_ACCEPTED);
-    CHECK(check_name, "", MOXKELDI_BAD_NAME);
-    CHECK(check_name, "-a", MOXKELDI_BAD_NAME);
+    BY_BOTH(check_name, "a:b", MOXKELDI_ACCEPTED);
+    BY_BOTH(check_name, "\xc3\xa9t\xc3\xa9", MOXKELDI_ACCEPTED);
+    BY_BOTH(check_name, "", MOXKELDI_BAD_NAME);
+    BY_BOTH(check_name, "-a", MOXKELDI_BAD_NAME);
+    BY_BOTH(check_name, "a\xe6\x97", MOXKELDI_NOT_UTF8);
 
-    CHECK(check_doctype, "a", MOXKELDI_ACCEPTED);
-    CHECK(check_doctype, "", MOXKELDI_BAD_NAME);
-    CHECK(check_doctype, "a SYSTEM", MOXKELDI_SPACE_REQUIRED);
-    CHECK(check_doctype, "a[<!ENTITY b:c \"\">]", MOXKELDI_COLON);
-    CHECK(check_doctype, "a SYSTEM x", MOXKELDI_LITERAL_MISSING);
-    CHECK(check_doctype, "a[", MOXKELDI_UNTERMINATED);
-    CHECK(check_doctype, "a[<![INCLUDE[]]>]", MOXKELDI_UNEXPECTED);
-    CHECK(check_doctype, "a[]b", MOXKELDI_TRAILING);
-    CHECK(check_doctype, "a PUBLIC \"^\" \"s\"", MOXKELDI_PUBLIC_ID);
-    CHECK(check_doctype, "a[<?Xml?>]", MOXKELDI_RESERVED_TARGET);
-    CHECK(check_doctype, "a[<!--a--b-->]", MOXKELDI_DOUBLE_HYPHEN);
-    CHECK(check_doctype, "a[<!ELEMENT b (c,d|e)>]", MOXKELDI_CONTENT_MODEL);
-    CHECK(check_doctype, "a[<!ATTLIST b c CDATA \"<\">]", MOXKELDI_LESS_THAN);
-    CHECK(check_doctype, "a[<!ENTITY e \"&#x;\">]", MOXKELDI_BAD_REFERENCE);
-    CHECK(check_doctype, "a[<!ENTITY e \"&#0;\">]", MOXKELDI_ILLEGAL_REFERENCE);
-    CHECK(check_doctype, "a[<!ENTITY e \"\x01\">]", MOXKELDI_ACCEPTED);
+    BY_BOTH(check_doctype, "a", MOXKELDI_ACCEPTED);
+    BY_BOTH(check_doctype, "", MOXKELDI_BAD_NAME);
+    BY_BOTH(check_doctype, "a SYSTEM", MOXKELDI_SPACE_REQUIRED);
+    BY_BOTH(check_doctype, "a[<!ENTITY b:c \"\">]", MOXKELDI_COLON);
+    BY_BOTH(check_doctype, "a SYSTEM x", MOXKELDI_LITERAL_MISSING);
+    BY_BOTH(check_doctype, "a[", MOXKELDI_UNTERMINATED);
+    BY_BOTH(check_doctype, "a[<![INCLUDE[]]>]", MOXKELDI_UNEXPECTED);
+    BY_BOTH(check_doctype, "a[]b", MOXKELDI_TRAILING);
+    BY_BOTH(check_doctype, "a PUBLIC \"^\" \"s\"", MOXKELDI_PUBLIC_ID);
+    BY_BOTH(check_doctype, "a[<?Xml?>]", MOXKELDI_RESERVED_TARGET);
+    BY_BOTH(check_doctype, "a[<!--a--b-->]", MOXKELDI_DOUBLE_HYPHEN);
+    BY_BOTH(check_doctype, "a[<!ELEMENT b (c,d|e)>]", MOXKELDI_CONTENT_MODEL);
+    BY_BOTH(check_doctype, "a[<!ATTLIST b c CDATA \"<\">]", MOXKELDI_LESS_THAN);
+    BY_BOTH(check_doctype, "a[<!ENTITY e \"&#x;\">]", MOXKELDI_BAD_REFERENCE);
+    BY_BOTH(check_doctype, "a[<!ENTITY e \"&#0;\">]", MOXKELDI_ILLEGAL_REFERENCE);
+    BY_BOTH(check_doctype, "a[<!ENTITY e \"\x01\">]", MOXKELDI_ACCEPTED);
+    BY_BOTH(check_doctype, "a[\xff]", MOXKELDI_NOT_UTF8);
 
     CHECK(check_declaration, "xml version=\"1.0\" encoding='UTF-8' standalone=\"yes\"", MOXKELDI_ACCEPTED);
     CHECK(check_declaration, "xml version=\"1.\"", MOXKELDI_DECLARATION_VALUE);
@@ -94,6 +110,29 @@ static void checks(void)
     CHECK(check_utf8, "\xf4\x8f\xbf\xbf", MOXKELDI_ACCEPTED);
     CHECK(check_utf8, "\xed\xa0\x80", MOXKELDI_NOT_UTF8);
     CHECK(check_utf8, "\xe6\x97", MOXKELDI_NOT_UTF8);
+}
+
+/* The two checks on names that only the fifth edition has, or neither. */
+static void editions(void)
+{
+    BY_EDITION(check_name, CHEROKEE, MOXKELDI_BAD_NAME, MOXKELDI_ACCEPTED);
+    BY_EDITION(check_name, ASTRAL LAST, MOXKELDI_BAD_NAME, MOXKELDI_ACCEPTED);
+    BY_EDITION(check_name, "a" TIE, MOXKELDI_BAD_NAME, MOXKELDI_ACCEPTED);
+    BY_BOTH(check_name, TIE "a", MOXKELDI_BAD_NAME);
+    BY_BOTH(check_name, "a" TIMES, MOXKELDI_BAD_NAME);
+    BY_BOTH(check_name, BEYOND, MOXKELDI_BAD_NAME);
+    BY_BOTH(check_name, "a" BEYOND, MOXKELDI_BAD_NAME);
+
+    BY_EDITION(check_doctype, CHEROKEE, MOXKELDI_BAD_NAME, MOXKELDI_ACCEPTED);
+    BY_EDITION(check_doctype, "a[<!ELEMENT " ASTRAL " (" CHEROKEE "|" LAST ")*>]", MOXKELDI_BAD_NAME, MOXKELDI_ACCEPTED);
+    BY_EDITION(check_doctype, "a[<!ATTLIST " CHEROKEE " b (" TIE ") #IMPLIED>]", MOXKELDI_BAD_NAME, MOXKELDI_ACCEPTED);
+    BY_EDITION(check_doctype, "a[<?" CHEROKEE "?>]", MOXKELDI_BAD_NAME, MOXKELDI_ACCEPTED);
+    BY_EDITION(check_doctype, "a[%" CHEROKEE ";]", MOXKELDI_BAD_NAME, MOXKELDI_ACCEPTED);
+    BY_EDITION(check_doctype, "a[<!ENTITY " CHEROKEE ":b ''>]", MOXKELDI_BAD_NAME, MOXKELDI_COLON);
+    BY_BOTH(check_doctype, "a[<!ELEMENT " TIMES " EMPTY>]", MOXKELDI_BAD_NAME);
+    BY_BOTH(check_doctype, "a[<!ELEMENT " BEYOND " EMPTY>]", MOXKELDI_BAD_NAME);
+    /* a % before such a letter begins a reference by the fifth edition alone, so the declaration is not read */
+    BY_EDITION(check_doctype, "a[<!ATTLIST b c CDATA '%" CHEROKEE "<'>]", MOXKELDI_LESS_THAN, MOXKELDI_ACCEPTED);
 }
 
 typedef uint8_t check_at(const uint8_t *text, size_t len, size_t *place);
@@ -111,6 +150,10 @@ static void located(const char *call, check_at *function, const char *text, size
 #define AT(call, read_well, from_there, wanted) \
     located(#call, moxkeldi_##call, read_well from_there, sizeof(read_well from_there) - 1, wanted, sizeof(read_well) - 1)
 
+/* The same by both editions. */
+#define AT_BY_BOTH(call, read_well, from_there, wanted) \
+    (AT(call##_at, read_well, from_there, wanted), AT(call##_fifth_at, read_well, from_there, wanted))
+
 static void places(void)
 {
     AT(check_chars_at, "a\tb", "", MOXKELDI_ACCEPTED);
@@ -121,29 +164,60 @@ static void places(void)
     AT(check_attr_value_at, "&#60;", "<", MOXKELDI_LESS_THAN);
     AT(check_attr_value_at, "", "", MOXKELDI_ACCEPTED);
     AT(check_char_refs_at, "& &#65;", "&#0;", MOXKELDI_ILLEGAL_REFERENCE);
-    AT(check_name_at, "a.b", "/c", MOXKELDI_BAD_NAME);
-    AT(check_name_at, "", "", MOXKELDI_BAD_NAME);
-    AT(check_doctype_at, "a[<!ATTLIST b\n c CDATA #IMPLIED\n d CDATA", "'e'>]", MOXKELDI_SPACE_REQUIRED);
-    AT(check_doctype_at, "a[<!ELEMENT b (c,d", "|e)>]", MOXKELDI_CONTENT_MODEL);
-    AT(check_doctype_at, "a[<!--", "b", MOXKELDI_UNTERMINATED);
-    AT(check_doctype_at, "a[<!ENTITY b ''>] ", "", MOXKELDI_ACCEPTED);
+    AT_BY_BOTH(check_name, "a.b", "/c", MOXKELDI_BAD_NAME);
+    AT_BY_BOTH(check_name, "", "", MOXKELDI_BAD_NAME);
+    AT_BY_BOTH(check_name, "a", "\xe6\x97", MOXKELDI_NOT_UTF8);
+    AT_BY_BOTH(check_doctype, "a[<!ATTLIST b\n c CDATA #IMPLIED\n d CDATA", "'e'>]", MOXKELDI_SPACE_REQUIRED);
+    AT_BY_BOTH(check_doctype, "a[<!ELEMENT b (c,d", "|e)>]", MOXKELDI_CONTENT_MODEL);
+    AT_BY_BOTH(check_doctype, "a[<!--", "b", MOXKELDI_UNTERMINATED);
+    AT_BY_BOTH(check_doctype, "a[<!ENTITY b ''>] ", "", MOXKELDI_ACCEPTED);
+    AT_BY_BOTH(check_doctype, "a[", "\xff]", MOXKELDI_NOT_UTF8);
     AT(check_declaration_at, "xml version=\"", "2.0\"", MOXKELDI_DECLARATION_VALUE);
     AT(check_declaration_at, "xml version='1.0'", "", MOXKELDI_ACCEPTED);
+
+    /* a name of the fifth edition is read over where Appendix B's names end the reading */
+    AT(check_name_at, "a", CHEROKEE "/b", MOXKELDI_BAD_NAME);
+    AT(check_name_fifth_at, "a" CHEROKEE, "/b", MOXKELDI_BAD_NAME);
+    AT(check_name_fifth_at, ASTRAL LAST, "", MOXKELDI_ACCEPTED);
+    AT_BY_BOTH(check_name, "a", BEYOND, MOXKELDI_BAD_NAME);
+    AT(check_doctype_at, "a[<!ELEMENT ", CHEROKEE " (b,c|d)>]", MOXKELDI_BAD_NAME);
+    AT(check_doctype_fifth_at, "a[<!ELEMENT " CHEROKEE " (b,c", "|d)>]", MOXKELDI_CONTENT_MODEL);
+    AT(check_doctype_fifth_at, ASTRAL "[<!ENTITY " CHEROKEE " ''>] ", "", MOXKELDI_ACCEPTED);
+    AT_BY_BOTH(check_doctype, "a[<!ELEMENT ", TIMES " EMPTY>]", MOXKELDI_BAD_NAME);
+}
+
+typedef uint8_t check_document(const uint8_t *text, size_t len, moxkeldi_verdict *verdict);
+
+static void field(const char *call, const char *name, const char *what, size_t got, size_t wanted)
+{
+    char label[64];
+    snprintf(label, sizeof label, "%s, %s", call, name);
+    expect(label, what, got, wanted);
 }
 
 /* All fields hold something else before the call, so one that is not written is seen. */
-static void told(const char *what, const uint8_t *text, size_t len, uint8_t wanted, moxkeldi_verdict fields)
+static void told(const char *call, check_document *function, const char *what, const uint8_t *text, size_t len, uint8_t wanted,
+                 moxkeldi_verdict fields)
 {
     moxkeldi_verdict verdict = {7777, 7777, 7777, 7777, 7777, 7777, 7777, 7777};
-    expect("check_document", what, moxkeldi_check_document(text, len, &verdict), wanted);
-    expect("check_document, place", what, verdict.place, fields.place);
-    expect("check_document, line", what, verdict.line, fields.line);
-    expect("check_document, column", what, verdict.column, fields.column);
-    expect("check_document, opened", what, verdict.opened, fields.opened);
-    expect("check_document, has_doctype", what, verdict.has_doctype, fields.has_doctype);
-    expect("check_document, doctype_start", what, verdict.doctype_start, fields.doctype_start);
-    expect("check_document, doctype_end", what, verdict.doctype_end, fields.doctype_end);
-    expect("check_document, unread", what, verdict.unread, fields.unread);
+    expect(call, what, function(text, len, &verdict), wanted);
+    field(call, "place", what, verdict.place, fields.place);
+    field(call, "line", what, verdict.line, fields.line);
+    field(call, "column", what, verdict.column, fields.column);
+    field(call, "opened", what, verdict.opened, fields.opened);
+    field(call, "has_doctype", what, verdict.has_doctype, fields.has_doctype);
+    field(call, "doctype_start", what, verdict.doctype_start, fields.doctype_start);
+    field(call, "doctype_end", what, verdict.doctype_end, fields.doctype_end);
+    field(call, "unread", what, verdict.unread, fields.unread);
+}
+
+#define TOLD(call, what, text, len, wanted, fields) told(#call, moxkeldi_##call, what, text, len, wanted, fields)
+
+/* The same by both editions. */
+static void told_by_both(const char *what, const uint8_t *text, size_t len, uint8_t wanted, moxkeldi_verdict fields)
+{
+    TOLD(check_document, what, text, len, wanted, fields);
+    TOLD(check_document_fifth, what, text, len, wanted, fields);
 }
 
 static void documents(void)
@@ -176,10 +250,39 @@ static void documents(void)
     for (size_t k = 0; k < sizeof rows / sizeof rows[0]; k++) {
         size_t len = strlen(rows[k].text);
         uint8_t *copy = copied(rows[k].text, len);
-        told(rows[k].text, copy, len, rows[k].number, rows[k].verdict);
+        told_by_both(rows[k].text, copy, len, rows[k].number, rows[k].verdict);
         free(copy);
     }
-    told("NULL", NULL, 0, MOXKELDI_UNTERMINATED, (moxkeldi_verdict){0, 1, 1, 0, 0, 0, 0, 0});
+    told_by_both("NULL", NULL, 0, MOXKELDI_UNTERMINATED, (moxkeldi_verdict){0, 1, 1, 0, 0, 0, 0, 0});
+}
+
+/* Documents with names that only the fifth edition has, or neither. */
+static void document_editions(void)
+{
+    const struct {
+        const char *text;
+        uint8_t by_appendix_b, by_fifth;
+        moxkeldi_verdict verdict, verdict_by_fifth;
+    } rows[] = {
+        {"<" CHEROKEE "/>", MOXKELDI_BAD_NAME, MOXKELDI_ACCEPTED, {1, 1, 2, 1, 0, 0, 0, 0}, {0, 1, 1, 0, 0, 0, 0, 0}},
+        {"<?" CHEROKEE " b?><a/>", MOXKELDI_BAD_NAME, MOXKELDI_ACCEPTED, {2, 1, 3, 2, 0, 0, 0, 0}, {9, 1, 8, 9, 0, 0, 0, 0}},
+        {"<!DOCTYPE " ASTRAL ">\n<" ASTRAL "/>", MOXKELDI_BAD_NAME, MOXKELDI_ACCEPTED,
+         {10, 1, 11, 10, 0, 0, 0, 0}, {16, 2, 1, 16, 1, 9, 14, 0}},
+        {"<!DOCTYPE " CHEROKEE "\n SYSTEM b><a/>", MOXKELDI_BAD_NAME, MOXKELDI_LITERAL_MISSING,
+         {10, 1, 11, 10, 0, 0, 0, 0}, {22, 2, 9, 22, 0, 0, 0, 0}},
+        {"<" TIMES "/>", MOXKELDI_BAD_NAME, MOXKELDI_BAD_NAME, {1, 1, 2, 1, 0, 0, 0, 0}, {1, 1, 2, 1, 0, 0, 0, 0}},
+        {"<" BEYOND "/>", MOXKELDI_BAD_NAME, MOXKELDI_BAD_NAME, {1, 1, 2, 1, 0, 0, 0, 0}, {1, 1, 2, 1, 0, 0, 0, 0}},
+        /* accepted by both, and by the fifth edition not read: see the end of editions() */
+        {"<!DOCTYPE a [<!ENTITY b '%" CHEROKEE "'>]><a/>", MOXKELDI_ACCEPTED, MOXKELDI_ACCEPTED,
+         {33, 1, 32, 33, 1, 9, 32, 0}, {33, 1, 32, 33, 1, 9, 32, 1}},
+    };
+    for (size_t k = 0; k < sizeof rows / sizeof rows[0]; k++) {
+        size_t len = strlen(rows[k].text);
+        uint8_t *copy = copied(rows[k].text, len);
+        TOLD(check_document, rows[k].text, copy, len, rows[k].by_appendix_b, rows[k].verdict);
+        TOLD(check_document_fifth, rows[k].text, copy, len, rows[k].by_fifth, rows[k].verdict_by_fifth);
+        free(copy);
+    }
 }
 
 static void depth(void)
@@ -196,7 +299,9 @@ static void depth(void)
         len += groups;
         memcpy(text + len, ">]", 2);
         len += 2;
-        checked("check_doctype", moxkeldi_check_doctype, text, len, groups == 64 ? MOXKELDI_ACCEPTED : MOXKELDI_TOO_DEEP);
+        uint8_t wanted = groups == 64 ? MOXKELDI_ACCEPTED : MOXKELDI_TOO_DEEP;
+        checked("check_doctype", moxkeldi_check_doctype, text, len, wanted);
+        checked("check_doctype_fifth", moxkeldi_check_doctype_fifth, text, len, wanted);
     }
 }
 
@@ -206,7 +311,7 @@ static void ncnames(void)
         const char *text;
         uint8_t number;
         bool yes;
-    } rows[] = {{"a", 0, true}, {"a:b", 0, false}, {"", 0, false}, {"a\xc3", 2, false}};
+    } rows[] = {{"a", 0, true}, {"a:b", 0, false}, {"", 0, false}, {"a\xc3", 2, false}, {CHEROKEE, 0, false}};
     for (size_t k = 0; k < sizeof rows / sizeof rows[0]; k++) {
         size_t len = strlen(rows[k].text);
         uint8_t *copy = copied(rows[k].text, len);
@@ -261,7 +366,9 @@ static void no_bytes(void)
         {"check_attr_value", moxkeldi_check_attr_value, moxkeldi_check_attr_value_at, MOXKELDI_ACCEPTED},
         {"check_char_refs", moxkeldi_check_char_refs, moxkeldi_check_char_refs_at, MOXKELDI_ACCEPTED},
         {"check_name", moxkeldi_check_name, moxkeldi_check_name_at, MOXKELDI_BAD_NAME},
+        {"check_name_fifth", moxkeldi_check_name_fifth, moxkeldi_check_name_fifth_at, MOXKELDI_BAD_NAME},
         {"check_doctype", moxkeldi_check_doctype, moxkeldi_check_doctype_at, MOXKELDI_BAD_NAME},
+        {"check_doctype_fifth", moxkeldi_check_doctype_fifth, moxkeldi_check_doctype_fifth_at, MOXKELDI_BAD_NAME},
         {"check_declaration", moxkeldi_check_declaration, moxkeldi_check_declaration_at, MOXKELDI_UNEXPECTED},
         {"check_utf8", moxkeldi_check_utf8, NULL, MOXKELDI_ACCEPTED},
     };
@@ -294,16 +401,24 @@ static void limit(void)
     if (text == NULL)
         abort();
     memset(text, 'a', len + 1);
-    check *const functions[] = {moxkeldi_check_chars,   moxkeldi_check_text,    moxkeldi_check_attr_value,  moxkeldi_check_char_refs,
-                                moxkeldi_check_name,    moxkeldi_check_doctype, moxkeldi_check_utf8,        moxkeldi_check_declaration};
+    check *const functions[] = {moxkeldi_check_chars,       moxkeldi_check_text,          moxkeldi_check_attr_value,
+                                moxkeldi_check_char_refs,   moxkeldi_check_name,          moxkeldi_check_name_fifth,
+                                moxkeldi_check_doctype,     moxkeldi_check_doctype_fifth, moxkeldi_check_utf8,
+                                moxkeldi_check_declaration};
     for (size_t k = 0; k < sizeof functions / sizeof functions[0]; k++) {
         bool no_text = functions[k] == moxkeldi_check_declaration;
         expect("limit", "at it", functions[k](text, len), no_text ? MOXKELDI_UNEXPECTED : MOXKELDI_ACCEPTED);
         expect("limit", "one byte more", functions[k](text, len + 1), MOXKELDI_TOO_LONG);
     }
-    size_t start = 7777;
-    expect("check_doctype_at", "one byte more", moxkeldi_check_doctype_at(text, len + 1, &start), MOXKELDI_TOO_LONG);
-    expect("check_doctype_at, place", "one byte more", start, 0);
+    check_at *const with_places[] = {moxkeldi_check_name_at, moxkeldi_check_name_fifth_at, moxkeldi_check_doctype_at,
+                                     moxkeldi_check_doctype_fifth_at};
+    for (size_t k = 0; k < sizeof with_places / sizeof with_places[0]; k++) {
+        size_t start = 7777;
+        expect("limit, with a place", "at it", with_places[k](text, len, &start), MOXKELDI_ACCEPTED);
+        expect("limit, the place", "at it", start, len);
+        expect("limit, with a place", "one byte more", with_places[k](text, len + 1, &start), MOXKELDI_TOO_LONG);
+        expect("limit, the place", "one byte more", start, 0);
+    }
     bool yes = true;
     expect("is_ncname", "one byte more", moxkeldi_is_ncname(text, len + 1, &yes), MOXKELDI_TOO_LONG);
     expect("is_ncname, yes", "one byte more", yes, false);
@@ -318,6 +433,28 @@ static void limit(void)
     expect("gate, started", "one byte more", gate.started, false);
     expect("gate, refused", "one byte more", gate.refused, 2);
     free(text);
+}
+
+/* A document with so many bytes between `<!DOCTYPE` and its `>`. */
+static void long_doctype(const char *what, size_t within, uint8_t wanted, moxkeldi_verdict fields)
+{
+    static const char before[] = "\n<!DOCTYPE", after[] = "><a/>";
+    size_t start = sizeof before - 1, end = start + within, len = end + sizeof after - 1;
+    uint8_t *text = malloc(len);
+    if (text == NULL)
+        abort();
+    memcpy(text, before, start);
+    memset(text + start, 'a', within);
+    memcpy(text + end, after, len - end);
+    told_by_both(what, text, len, wanted, fields);
+    free(text);
+}
+
+static void document_limit(void)
+{
+    size_t end = 10 + MOXKELDI_LIMIT, root = end + 1;
+    long_doctype("at the limit", MOXKELDI_LIMIT, MOXKELDI_ACCEPTED, (moxkeldi_verdict){root, 2, root, root, 1, 10, end, 0});
+    long_doctype("one byte more", MOXKELDI_LIMIT + 1, MOXKELDI_TOO_LONG, (moxkeldi_verdict){1, 2, 1, 1, 0, 0, 0, 0});
 }
 
 static void recorded(const char *what, const moxkeldi_gate *gate, bool started, bool seen, bool open, uint16_t refused)
@@ -377,18 +514,25 @@ static void gates(void)
     recorded("held at 65535", &bytes, false, false, false, 65535);
     expect("decl", "refused", decl(&bytes, "xml"), MOXKELDI_SPACE_REQUIRED);
     recorded("still held", &bytes, true, false, false, 65535);
+
+    moxkeldi_gate names = {0};
+    expect("doctype", "a name of the fifth edition", doctype(&names, MOXKELDI_PROLOG, CHEROKEE), MOXKELDI_BAD_NAME);
+    recorded("by Appendix B", &names, true, true, false, 1);
 }
 
 int main(void)
 {
     documents();
+    document_editions();
     checks();
+    editions();
     places();
     depth();
     ncnames();
     scans();
     no_bytes();
     limit();
+    document_limit();
     gates();
     printf("calls: %u passed, %u failed\n", passed, failed);
     return failed ? 1 : 0;
