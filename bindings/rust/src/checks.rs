@@ -60,9 +60,24 @@ pub fn check_name(text: &[u8]) -> Result<(), Refusal> {
     verdict(sys::check_name(text))
 }
 
+/// [`check_name`] by the names of [the fifth edition](crate#names).
+///
+/// ```
+/// use moxkeldi::{check_name, check_name_fifth, Refusal};
+/// assert_eq!(check_name_fifth("ᎠᎹ".as_bytes()), Ok(()));
+/// assert_eq!(check_name("ᎠᎹ".as_bytes()), Err(Refusal::BadName));
+/// for both in [check_name, check_name_fifth] {
+///     assert_eq!(both("eau·1".as_bytes()), Ok(()));
+/// }
+/// ```
+pub fn check_name_fifth(text: &[u8]) -> Result<(), Refusal> {
+    verdict(sys::check_name_fifth(text))
+}
+
 /// A DOCTYPE: the text between `<!DOCTYPE` and its closing `>`, with the internal subset and every declaration in it.
 ///
-/// It does not look for characters that XML does not allow; [`Gate::doctype`](crate::Gate::doctype) does.
+/// It does not look for characters that XML does not allow; [`check_chars`] does. [`Gate::doctype`](crate::Gate::doctype) makes both
+/// checks.
 ///
 /// ```
 /// use moxkeldi::{check_doctype, Refusal};
@@ -71,6 +86,21 @@ pub fn check_name(text: &[u8]) -> Result<(), Refusal> {
 /// ```
 pub fn check_doctype(text: &[u8]) -> Result<(), Refusal> {
     verdict(sys::check_doctype(text))
+}
+
+/// [`check_doctype`] by the names of [the fifth edition](crate#names).
+///
+/// ```
+/// use moxkeldi::{check_doctype, check_doctype_fifth, Refusal};
+/// let layers = " job [<!ELEMENT ᎠᎹ EMPTY>]".as_bytes();
+/// assert_eq!(check_doctype_fifth(layers), Ok(()));
+/// assert_eq!(check_doctype(layers), Err(Refusal::BadName));
+/// for both in [check_doctype, check_doctype_fifth] {
+///     assert_eq!(both(b" job [<!ELEMENT water EMPTY>]"), Ok(()));
+/// }
+/// ```
+pub fn check_doctype_fifth(text: &[u8]) -> Result<(), Refusal> {
+    verdict(sys::check_doctype_fifth(text))
 }
 
 /// An XML declaration: the text between `<?` and `?>`.
@@ -95,7 +125,8 @@ pub fn check_utf8(text: &[u8]) -> Result<(), Refusal> {
     verdict(sys::check_utf8(text))
 }
 
-/// Whether the whole text is a name without a colon. Only [`Refusal::TooLong`] and [`Refusal::NotUtf8`] are errors here.
+/// Whether the whole text is a name without a colon, with the letters of Appendix B. Only [`Refusal::TooLong`] and
+/// [`Refusal::NotUtf8`] are errors here.
 ///
 /// ```
 /// use moxkeldi::is_ncname;

@@ -1,5 +1,5 @@
 use crate::refusal::{verdict, Refusal};
-use crate::sys;
+use crate::sys::{self, RawVerdict};
 use std::fmt;
 use std::ops::Range;
 
@@ -20,7 +20,26 @@ use std::ops::Range;
 /// # Ok::<(), moxkeldi::Fault>(())
 /// ```
 pub fn check_document(text: &[u8]) -> Result<Document, Fault> {
-    let (number, told) = sys::check_document(text);
+    judged(sys::check_document(text))
+}
+
+/// [`check_document`] by the names of [the fifth edition](crate#names).
+///
+/// ```
+/// use moxkeldi::{check_document, check_document_fifth, Refusal};
+/// let job = "<!DOCTYPE job [<!ELEMENT ᎠᎹ EMPTY>]>\n<job/>".as_bytes();
+/// assert_eq!(&job[check_document_fifth(job)?.root()..], b"<job/>");
+/// assert_eq!(check_document(job).unwrap_err().refusal(), Refusal::BadName);
+/// for both in [check_document, check_document_fifth] {
+///     assert_eq!(both(b"<!DOCTYPE job [<!ELEMENT water EMPTY>]><job/>")?.root(), 39);
+/// }
+/// # Ok::<(), moxkeldi::Fault>(())
+/// ```
+pub fn check_document_fifth(text: &[u8]) -> Result<Document, Fault> {
+    judged(sys::check_document_fifth(text))
+}
+
+fn judged((number, told): (u8, RawVerdict)) -> Result<Document, Fault> {
     match verdict(number) {
         Ok(()) => Ok(Document {
             root: told.place,
@@ -37,7 +56,7 @@ pub fn check_document(text: &[u8]) -> Result<Document, Fault> {
     }
 }
 
-/// What [`check_document`] says of a document that it accepts.
+/// What [`check_document`] or [`check_document_fifth`] says of a document that it accepts.
 #[derive(Debug, Clone, Copy, PartialEq, Eq, Hash)]
 pub struct Document {
     root: usize,

@@ -49,6 +49,26 @@
 //! DOCTYPE.
 //!
 //! The build takes the archive that the environment variable `MOXKELDI_LIB` names (a whole path), or runs `rt staticlib moxkeldi`.
+//!
+//! # Names
+//!
+//! Names are those of Appendix B of XML 1.0's earlier editions. The calls with `_fifth` are the calls of the same name without it, but
+//! for the names, which are those of the fifth edition (productions 4, 4a and 5): many more scripts, among them Ethiopic, Khmer and
+//! Cherokee, and all of U+10000 to U+EFFFF. Use them where names need these and the programs that read the document afterwards know
+//! them too; one that goes by the earlier editions does not.
+//!
+//! What the call without `_fifth` accepts, the one with it accepts too. It may read less of it: a declaration with a `%` directly before
+//! a letter that only the fifth edition has is only delimited there, since a parameter entity may be meant. The [`Gate`] and
+//! [`is_ncname`] stay on Appendix B.
+//!
+//! ```
+//! use moxkeldi::{check_document, check_document_fifth, Refusal};
+//!
+//! let job = "<!DOCTYPE ᎠᎹ><ᎠᎹ/>".as_bytes();
+//! assert_eq!(check_document(job).unwrap_err().refusal(), Refusal::BadName);
+//! assert_eq!(check_document_fifth(job)?.root(), 17);
+//! # Ok::<(), moxkeldi::Fault>(())
+//! ```
 
 #![deny(missing_docs)]
 #![deny(unsafe_code)]
@@ -62,14 +82,15 @@ mod scan;
 mod sys;
 
 pub use checks::{
-    check_attr_value, check_char_refs, check_chars, check_declaration, check_doctype, check_name,
-    check_text, check_utf8, is_ncname, LIMIT,
+    check_attr_value, check_char_refs, check_chars, check_declaration, check_doctype,
+    check_doctype_fifth, check_name, check_name_fifth, check_text, check_utf8, is_ncname, LIMIT,
 };
-pub use document::{check_document, Document, Fault};
+pub use document::{check_document, check_document_fifth, Document, Fault};
 pub use gate::{Doctype, Gate, Phase};
 pub use places::{
     check_attr_value_at, check_char_refs_at, check_chars_at, check_declaration_at,
-    check_doctype_at, check_name_at, check_text_at, Refused,
+    check_doctype_at, check_doctype_fifth_at, check_name_at, check_name_fifth_at, check_text_at,
+    Refused,
 };
 pub use refusal::{Refusal, UnknownNumber};
 pub use scan::{scan, Scan};

@@ -75,3 +75,33 @@ with_a_place! {
     check_doctype_at, "check_doctype", b" job SYSTEM job.dtd", LiteralMissing, 12;
     check_declaration_at, "check_declaration", b"xml version=\"2.0\"", DeclarationValue, 13;
 }
+
+/// [`check_name_fifth`](crate::check_name_fifth), with the place of the refusal.
+///
+/// ```
+/// use moxkeldi::{check_name_at, check_name_fifth_at};
+/// assert_eq!(check_name_fifth_at("layer.ᎠᎹ".as_bytes()), Ok(()));
+/// assert_eq!(check_name_at("layer.ᎠᎹ".as_bytes()).unwrap_err().offset(), 6);
+/// assert_eq!(check_name_fifth_at("layer.ᎠᎹ ".as_bytes()).unwrap_err().offset(), 12);
+/// for both in [check_name_at, check_name_fifth_at] {
+///     assert_eq!(both(b"layer.water"), Ok(()));
+/// }
+/// ```
+pub fn check_name_fifth_at(text: &[u8]) -> Result<(), Refused> {
+    located(sys::check_name_fifth_at(text))
+}
+
+/// [`check_doctype_fifth`](crate::check_doctype_fifth), with the place of the refusal.
+///
+/// ```
+/// use moxkeldi::{check_doctype_at, check_doctype_fifth_at};
+/// assert_eq!(check_doctype_fifth_at(" ᎠᎹ".as_bytes()), Ok(()));
+/// assert_eq!(check_doctype_at(" ᎠᎹ".as_bytes()).unwrap_err().offset(), 1);
+/// assert_eq!(check_doctype_fifth_at(" ᎠᎹ SYSTEM job.dtd".as_bytes()).unwrap_err().offset(), 15);
+/// for both in [check_doctype_at, check_doctype_fifth_at] {
+///     assert_eq!(both(b" water"), Ok(()));
+/// }
+/// ```
+pub fn check_doctype_fifth_at(text: &[u8]) -> Result<(), Refused> {
+    located(sys::check_doctype_fifth_at(text))
+}

@@ -47,12 +47,19 @@ mod c {
             len: usize,
             verdict: *mut RawVerdict,
         ) -> u8;
+        pub(super) fn moxkeldi_check_document_fifth(
+            text: *const u8,
+            len: usize,
+            verdict: *mut RawVerdict,
+        ) -> u8;
         pub(super) fn moxkeldi_check_chars(text: *const u8, len: usize) -> u8;
         pub(super) fn moxkeldi_check_text(text: *const u8, len: usize) -> u8;
         pub(super) fn moxkeldi_check_attr_value(text: *const u8, len: usize) -> u8;
         pub(super) fn moxkeldi_check_char_refs(text: *const u8, len: usize) -> u8;
         pub(super) fn moxkeldi_check_name(text: *const u8, len: usize) -> u8;
+        pub(super) fn moxkeldi_check_name_fifth(text: *const u8, len: usize) -> u8;
         pub(super) fn moxkeldi_check_doctype(text: *const u8, len: usize) -> u8;
+        pub(super) fn moxkeldi_check_doctype_fifth(text: *const u8, len: usize) -> u8;
         pub(super) fn moxkeldi_check_declaration(text: *const u8, len: usize) -> u8;
         pub(super) fn moxkeldi_check_chars_at(text: *const u8, len: usize, place: *mut usize)
             -> u8;
@@ -68,7 +75,17 @@ mod c {
             place: *mut usize,
         ) -> u8;
         pub(super) fn moxkeldi_check_name_at(text: *const u8, len: usize, place: *mut usize) -> u8;
+        pub(super) fn moxkeldi_check_name_fifth_at(
+            text: *const u8,
+            len: usize,
+            place: *mut usize,
+        ) -> u8;
         pub(super) fn moxkeldi_check_doctype_at(
+            text: *const u8,
+            len: usize,
+            place: *mut usize,
+        ) -> u8;
+        pub(super) fn moxkeldi_check_doctype_fifth_at(
             text: *const u8,
             len: usize,
             place: *mut usize,
@@ -96,10 +113,19 @@ mod c {
     }
 }
 
-pub(crate) fn check_document(text: &[u8]) -> (u8, RawVerdict) {
-    let mut verdict = RawVerdict::default();
-    let number = unsafe { c::moxkeldi_check_document(text.as_ptr(), text.len(), &mut verdict) };
-    (number, verdict)
+macro_rules! of_document {
+    ($($name:ident: $foreign:ident;)*) => {
+        $(pub(crate) fn $name(text: &[u8]) -> (u8, RawVerdict) {
+            let mut verdict = RawVerdict::default();
+            let number = unsafe { c::$foreign(text.as_ptr(), text.len(), &mut verdict) };
+            (number, verdict)
+        })*
+    };
+}
+
+of_document! {
+    check_document: moxkeldi_check_document;
+    check_document_fifth: moxkeldi_check_document_fifth;
 }
 
 macro_rules! of_text {
@@ -116,7 +142,9 @@ of_text! {
     check_attr_value: moxkeldi_check_attr_value;
     check_char_refs: moxkeldi_check_char_refs;
     check_name: moxkeldi_check_name;
+    check_name_fifth: moxkeldi_check_name_fifth;
     check_doctype: moxkeldi_check_doctype;
+    check_doctype_fifth: moxkeldi_check_doctype_fifth;
     check_declaration: moxkeldi_check_declaration;
     check_utf8: moxkeldi_check_utf8;
 }
@@ -137,7 +165,9 @@ of_text_at! {
     check_attr_value_at: moxkeldi_check_attr_value_at;
     check_char_refs_at: moxkeldi_check_char_refs_at;
     check_name_at: moxkeldi_check_name_at;
+    check_name_fifth_at: moxkeldi_check_name_fifth_at;
     check_doctype_at: moxkeldi_check_doctype_at;
+    check_doctype_fifth_at: moxkeldi_check_doctype_fifth_at;
     check_declaration_at: moxkeldi_check_declaration_at;
 }
 

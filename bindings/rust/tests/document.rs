@@ -1,13 +1,24 @@
 //! Whole documents.
-use moxkeldi::{check_document, Document, Fault, Refusal, LIMIT};
+use moxkeldi::{check_document, check_document_fifth, Document, Fault, Refusal, LIMIT};
+
+/// By Appendix B's names, and the same by the fifth edition's: no document here has a letter that only the latter has.
+fn checked(text: &[u8]) -> Result<Document, Fault> {
+    let said = check_document(text);
+    assert_eq!(
+        check_document_fifth(text),
+        said,
+        "{}",
+        String::from_utf8_lossy(text)
+    );
+    said
+}
 
 fn accepted(text: &[u8]) -> Document {
-    check_document(text)
-        .unwrap_or_else(|fault| panic!("{}: {fault}", String::from_utf8_lossy(text)))
+    checked(text).unwrap_or_else(|fault| panic!("{}: {fault}", String::from_utf8_lossy(text)))
 }
 
 fn refused(text: &[u8]) -> Fault {
-    match check_document(text) {
+    match checked(text) {
         Ok(_) => panic!("{} is accepted", String::from_utf8_lossy(text)),
         Err(fault) => fault,
     }
@@ -223,7 +234,7 @@ fn encodings() {
     let named = |name: &str, rest: &[u8]| {
         let mut text = format!("<?xml version='1.0' encoding='{name}'?>").into_bytes();
         text.extend_from_slice(rest);
-        check_document(&text).map_err(|fault| (fault.refusal(), fault.offset()))
+        checked(&text).map_err(|fault| (fault.refusal(), fault.offset()))
     };
     let start = "<?xml version='1.0' encoding='".len();
     for name in [

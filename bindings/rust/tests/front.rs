@@ -3,13 +3,15 @@ use moxkeldi::*;
 
 type Check = fn(&[u8]) -> Result<(), Refusal>;
 
-const CHECKS: [Check; 8] = [
+const CHECKS: [Check; 10] = [
     check_chars,
     check_text,
     check_attr_value,
     check_char_refs,
     check_name,
+    check_name_fifth,
     check_doctype,
+    check_doctype_fifth,
     check_utf8,
     check_declaration,
 ];
@@ -17,7 +19,7 @@ const CHECKS: [Check; 8] = [
 #[test]
 fn one_byte_more_is_too_long() {
     let mut text = vec![b'a'; LIMIT];
-    for check in &CHECKS[..7] {
+    for check in &CHECKS[..9] {
         assert_eq!(check(&text), Ok(()));
     }
     assert_eq!(check_declaration(&text), Err(Refusal::Unexpected));

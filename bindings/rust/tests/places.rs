@@ -42,6 +42,7 @@ fn doctypes() {
     ];
     for (read_well, from_there, why) in rows {
         refused(check_doctype_at, read_well, from_there, *why);
+        refused(check_doctype_fifth_at, read_well, from_there, *why);
     }
 }
 
@@ -62,6 +63,7 @@ fn the_other_checks() {
         Refusal::IllegalReference,
     );
     refused(check_name_at, "\u{e9}.b", "/c", Refusal::BadName);
+    refused(check_name_fifth_at, "\u{e9}.b", "/c", Refusal::BadName);
     refused(
         check_declaration_at,
         "xml version='1.0'",
@@ -72,15 +74,19 @@ fn the_other_checks() {
 
 #[test]
 fn the_two_numbers_in_front() {
-    let refused = check_name_at(b"ab\xed\xa0\x80").unwrap_err();
-    assert_eq!((refused.refusal(), refused.offset()), (Refusal::NotUtf8, 2));
-    let refused = check_name_at(&[b'a'; LIMIT + 1]).unwrap_err();
-    assert_eq!((refused.refusal(), refused.offset()), (Refusal::TooLong, 0));
-    assert_eq!(Refusal::from(refused), Refusal::TooLong);
+    for check in [check_name_at, check_name_fifth_at, check_doctype_fifth_at] {
+        let refused = check(b"ab\xed\xa0\x80").unwrap_err();
+        assert_eq!((refused.refusal(), refused.offset()), (Refusal::NotUtf8, 2));
+        let refused = check(&[b'a'; LIMIT + 1]).unwrap_err();
+        assert_eq!((refused.refusal(), refused.offset()), (Refusal::TooLong, 0));
+        assert_eq!(Refusal::from(refused), Refusal::TooLong);
+    }
 }
 
 #[test]
 fn what_is_accepted_has_no_place() {
-    assert_eq!(check_doctype_at(b" job [<!ELEMENT job (leg+)>]"), Ok(()));
+    for check in [check_doctype_at, check_doctype_fifth_at] {
+        assert_eq!(check(b" job [<!ELEMENT job (leg+)>]"), Ok(()));
+    }
     assert_eq!(check_chars_at(b""), Ok(()));
 }

@@ -60,10 +60,14 @@ fn doctypes() {
     ];
     for (wanted, text) in rows {
         assert_eq!(number(check_doctype(text.as_bytes())), *wanted, "{text}");
+        let fifth = check_doctype_fifth(text.as_bytes());
+        assert_eq!(number(fifth), *wanted, "{text}, by the fifth edition");
     }
-    assert_eq!(check_doctype(&nested(64)), Ok(()));
-    assert_eq!(check_doctype(&nested(65)), Err(Refusal::TooDeep));
-    assert_eq!(check_doctype(b"a[\xff]"), Err(Refusal::NotUtf8));
+    for check in [check_doctype, check_doctype_fifth] {
+        assert_eq!(check(&nested(64)), Ok(()));
+        assert_eq!(check(&nested(65)), Err(Refusal::TooDeep));
+        assert_eq!(check(b"a[\xff]"), Err(Refusal::NotUtf8));
+    }
 }
 
 #[test]
@@ -120,6 +124,10 @@ fn texts_values_and_references() {
         (check_name, 0, "été"),
         (check_name, 4, "-a"),
         (check_name, 4, "a\u{220}"),
+        (check_name_fifth, 0, ":"),
+        (check_name_fifth, 0, "été"),
+        (check_name_fifth, 4, "-a"),
+        (check_name_fifth, 0, "a\u{220}"),
     ];
     for (check, wanted, text) in rows {
         assert_eq!(number(check(text.as_bytes())), *wanted, "{text:?}");
@@ -145,7 +153,9 @@ fn empty_slices() {
     assert_eq!(check_char_refs(empty), Ok(()));
     assert_eq!(check_utf8(empty), Ok(()));
     assert_eq!(check_name(empty), Err(Refusal::BadName));
+    assert_eq!(check_name_fifth(empty), Err(Refusal::BadName));
     assert_eq!(check_doctype(empty), Err(Refusal::BadName));
+    assert_eq!(check_doctype_fifth(empty), Err(Refusal::BadName));
     assert_eq!(check_declaration(empty), Err(Refusal::Unexpected));
     assert_eq!(is_ncname(empty), Ok(false));
     assert_eq!(scan(empty), Ok(Scan::NotOpened));
