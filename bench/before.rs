@@ -4,8 +4,10 @@
 //! before time [CALL]                 times them in turn
 //! before list [CALL]                 the calls and the shapes that both accept, a tab between
 //! before run WHICH CALL SHAPE TIMES  calls one of them (WHICH is `first` or `second`) on a text of 64 KiB
-// each program times a part of the shapes
-#[allow(dead_code)]
+#[cfg(editions)]
+mod editions;
+// the program for editions times few of these
+#[cfg_attr(editions, allow(dead_code))]
 mod shapes;
 mod timing;
 
@@ -57,18 +59,14 @@ fn both(call: &str) -> Option<(Check, Check)> {
     Some((*first, *second))
 }
 
-/// The shapes of the checks that have both forms; the usual declaration is always its own size.
-fn rows(only: Option<&str>) -> Vec<(&'static str, Shape)> {
-    let mut rows = if cfg!(editions) {
-        shapes::EDITIONS.to_vec()
-    } else {
-        all_shapes()
-    };
-    rows.retain(|(call, _)| both(call).is_some() && only.is_none_or(|o| o == *call));
-    rows
+#[cfg(editions)]
+fn all_rows() -> Vec<(&'static str, Shape)> {
+    editions::SHAPES.to_vec()
 }
 
-fn all_shapes() -> Vec<(&'static str, Shape)> {
+/// The usual declaration is always its own size.
+#[cfg(not(editions))]
+fn all_rows() -> Vec<(&'static str, Shape)> {
     let mut rows: Vec<(&str, Shape)> = Vec::new();
     rows.extend(
         shapes::DOCTYPES
@@ -80,6 +78,13 @@ fn all_shapes() -> Vec<(&'static str, Shape)> {
         "check_declaration",
         ("usual", |_| shapes::USUAL_DECLARATION.to_string()),
     ));
+    rows
+}
+
+/// The shapes of the checks that have both forms.
+fn rows(only: Option<&str>) -> Vec<(&'static str, Shape)> {
+    let mut rows = all_rows();
+    rows.retain(|(call, _)| both(call).is_some() && only.is_none_or(|o| o == *call));
     rows
 }
 

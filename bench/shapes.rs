@@ -1,7 +1,7 @@
 //! The texts that are timed: each shape at any size, always accepted by the call that it is for.
 
 /// `head`, as many items as fit, spaces up to the size, `tail`.
-fn filled(head: &str, tail: &str, size: usize, item: impl Fn(usize) -> String) -> String {
+pub fn filled(head: &str, tail: &str, size: usize, item: impl Fn(usize) -> String) -> String {
     let mut text = head.to_string();
     for k in 0.. {
         let next = item(k);
@@ -14,12 +14,12 @@ fn filled(head: &str, tail: &str, size: usize, item: impl Fn(usize) -> String) -
     text + tail
 }
 
-fn repeated(piece: &str, size: usize) -> String {
+pub fn repeated(piece: &str, size: usize) -> String {
     piece.repeat(size / piece.len())
 }
 
 /// ASCII with one é each 12 kB, the first in the middle of a text that is shorter.
-fn rare_accent(piece: &str, size: usize) -> String {
+pub fn rare_accent(piece: &str, size: usize) -> String {
     const EACH: usize = 12_000;
     let mut text = repeated(piece, size).into_bytes();
     let mut at = (EACH / 2).min(text.len() / 2);
@@ -114,7 +114,7 @@ pub fn typical(size: usize) -> String {
 }
 
 const WORDS: &str = "some words of a value, ";
-const LETTERS: &str = "abcdefgh.-9";
+pub const LETTERS: &str = "abcdefgh.-9";
 const GREEK_HAN: &str = "στοιχείο漢字";
 const REFERENCES: &str = "&#233;&#x3b1;&#65;";
 
@@ -193,51 +193,6 @@ pub const OTHERS: &[(&str, Shape)] = &[
                 "0".repeat(size - 52)
             )
         }),
-    ),
-];
-
-const GREEK: &str = "στοιχείο";
-const HAN: &str = "漢字";
-const CHEROKEE: &str = "ᏣᎳᎩ";
-const ETHIOPIC: &str = "ᎀⶀꬁ";
-const ASTRAL: &str = "𐌰𝒜𠀀";
-
-/// A DOCTYPE whose names are made of this word.
-fn named(word: &str, size: usize) -> String {
-    filled("root [\n", "]", size, |k| {
-        format!("<!ELEMENT {word}{k} ({word}, ({word}{word} | {word}.a)?, {word}*)>\n")
-    })
-}
-
-/// For a check and its form by the fifth edition's names: texts that both accept, then texts in scripts that only the fifth edition has.
-pub const EDITIONS: &[(&str, Shape)] = &[
-    ("check_name", ("ASCII", |size| repeated(LETTERS, size))),
-    ("check_name", ("Greek", |size| repeated(GREEK, size))),
-    ("check_name", ("Han", |size| repeated(HAN, size))),
-    (
-        "check_name",
-        ("rare accent", |size| rare_accent(LETTERS, size)),
-    ),
-    ("check_doctype", ("typical", typical)),
-    ("check_doctype", ("Greek", |size| named(GREEK, size))),
-    ("check_doctype", ("Han", |size| named(HAN, size))),
-    ("check_name", ("Cherokee", |size| repeated(CHEROKEE, size))),
-    (
-        "check_name",
-        ("Ethiopic supplements", |size| repeated(ETHIOPIC, size)),
-    ),
-    (
-        "check_name",
-        ("astral planes", |size| repeated(ASTRAL, size)),
-    ),
-    ("check_doctype", ("Cherokee", |size| named(CHEROKEE, size))),
-    (
-        "check_doctype",
-        ("Ethiopic supplements", |size| named(ETHIOPIC, size)),
-    ),
-    (
-        "check_doctype",
-        ("astral planes", |size| named(ASTRAL, size)),
     ),
 ];
 

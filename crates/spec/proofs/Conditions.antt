@@ -11,6 +11,7 @@ use Rattle.spec.specs.Basics.{limit}
 use Rattle.spec.specs.Conditions.{letters, Size, Limited, sizes, Alphabet, Ascii, alphabets}
 use Rattle.spec.specs.Grammar.AppendixB.{start-char, part-char, appendix-B}
 use Rattle.spec.specs.Grammar.Characters.{xml-char, Chars}
+use Rattle.spec.specs.Grammar.FifthEdition.{name-start-char, name-char}
 use Rattle.spec.specs.Grammar.Languages.{end, more}
 use Rattle.spec.specs.Grammar.Names.{Dialect, with-classes}
 use Rattle.spec.specs.Grammar.Ranges.{in-table}
@@ -55,5 +56,5 @@ spells a t =
     (λ z. ascii-names D (e ∙ z), λ A. sym e ∙ ascii-passes D A)
 
 pub alphabets-spelled : All Ascii alphabets
-unfolding in-table start-char part-char
+unfolding in-table start-char part-char name-start-char name-char
 alphabets-spelled = by-test spelled spells alphabets refl

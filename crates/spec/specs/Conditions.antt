@@ -12,6 +12,7 @@ use Rattle.spec.specs.Basics.{within}
 use Rattle.spec.specs.Grammar.AppendixB.{start-char, part-char, appendix-B}
 use Rattle.spec.specs.Grammar.Characters.{Chars}
 use Rattle.spec.specs.Grammar.Doctype.{doctypedecl}
+use Rattle.spec.specs.Grammar.FifthEdition.{name-start-char, name-char}
 use Rattle.spec.specs.Grammar.Languages.{ascii, one-of, none-of}
 use Rattle.spec.specs.Grammar.Names.{with-classes, AsciiNames}
 use Rattle.spec.specs.Promises.{Accepted, Covered}
@@ -98,8 +99,9 @@ Ascii a = (a .has-ascii ≡ true) ↔ AsciiNames (with-classes appendix-B (a .st
 
 abbrev pub alphabets : List Alphabet
 alphabets =
-    -- Appendix B's; and with every character beyond ASCII
+    -- Appendix B's, the fifth edition's; and with every character beyond ASCII
     alphabet start-char part-char true
+    ∷ alphabet name-start-char name-char true
     ∷ alphabet (λ c. leb 128 c || start-char c) (λ c. leb 128 c || part-char c) true
     -- one character too many, or one too few
     ∷ alphabet (λ c. one-of "0" c || start-char c) part-char false
