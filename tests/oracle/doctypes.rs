@@ -1,6 +1,6 @@
 //! What stands after `<!DOCTYPE`, read with the places of its refusals: production 28, in the Rust's order.
 use crate::declarations as decl;
-use crate::parser::wellformed::is_name_start_char;
+use crate::editions::Names;
 use crate::reading::{Piece, Read, Reader, Stop, Within};
 
 /// Reads up to where production 28 has the `>`. The answer is how many declarations are unread.
@@ -72,7 +72,7 @@ fn markup(r: &mut Reader<'_>, referred: bool) -> Read<bool> {
     for (keyword, parse) in KEYWORDS {
         if r.sees(keyword) {
             let body = body(r, keyword)?;
-            if referred || refers(body.text) {
+            if referred || refers(body.text, r.names) {
                 return Ok(true);
             }
             return parse(&mut r.part(body)).map(|()| false);
@@ -105,18 +105,19 @@ fn body<'a>(r: &mut Reader<'a>, keyword: &str) -> Read<Piece<'a>> {
 }
 
 /// "where `%` stands in it directly before a character that may begin a name, inside a literal too"
-fn refers(body: &str) -> bool {
+fn refers(body: &str, names: Names) -> bool {
     let next = |k: usize| body[k + 1..].chars().next();
     body.match_indices('%')
-        .any(|(k, _)| next(k).is_some_and(is_name_start_char))
+        .any(|(k, _)| next(k).is_some_and(|c| names.begin_with(c)))
 }
 
 /// What `check_doctype_at` has to answer, by this reading: the number and the place.
-pub fn stop(text: &str) -> (u8, usize) {
+pub fn stop(text: &str, names: Names) -> (u8, usize) {
     let mut r = Reader {
         text,
         at: 0,
         within: Within::Part,
+        names,
     };
     match doctype(&mut r) {
         Ok(_) if r.at_end() => (0, r.at),

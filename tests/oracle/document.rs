@@ -1,6 +1,7 @@
-//! The reference for `check_document`, for which there is no Rust: written from the words of docs/SCOPE.md ("Reading", "A whole document", "The
-//! numbers") and of the verdict, and from no code. Comments in quotes are SCOPE's sentences. Where the Rust has a function, the number has to
-//! be the Rust's. Where the words leave something open, it was settled as the library's order of reading has it:
+//! The reference for `check_document` and `check_document_fifth`, for which there is no Rust: written from the words of docs/SCOPE.md
+//! ("Reading", "A whole document", "The numbers") and of the verdict, and from no code. Comments in quotes are SCOPE's sentences. Where the
+//! Rust has a function, the number has to be the Rust's, by the fifth edition that of the Rust with its names. Where the words leave something
+//! open, it was settled as the library's order of reading has it:
 //! - a DOCTYPE, and what else begins with `<!`, does not end where no `>` is left behind what is wrong in it: `<!DOCTYPE 1`, `<!a`;
 //! - where the text ends directly behind the root's `<`, that `<` is what was opened: `<`;
 //! - an XML declaration begins with `<?xml` and white space or `?`: `<?xml?>`;
@@ -8,9 +9,10 @@
 //! - a DOCTYPE that is too long is refused where it begins, and only where nothing in it is.
 use crate::answers::{LIMIT, doctype_number};
 use crate::doctypes::doctype;
+use crate::editions::Names;
 use crate::numbers::of_result;
 use crate::parser::checks::reached::check_declaration;
-use crate::parser::wellformed::{is_name_start_char, is_xml_char};
+use crate::parser::wellformed::is_xml_char;
 use crate::reading::{Piece, Read, Reader, Stop, Within, is_space};
 
 #[derive(Clone, Copy, PartialEq, Eq, Debug)]
@@ -40,7 +42,7 @@ pub fn verdict_text(v: &Verdict) -> String {
     )
 }
 
-pub fn check_document(bytes: &[u8]) -> Verdict {
+pub fn check_document(bytes: &[u8], names: Names) -> Verdict {
     if is_two_or_four_bytes(bytes) {
         return refusal(bytes, 2, 0, 0);
     }
@@ -53,7 +55,7 @@ pub fn check_document(bytes: &[u8]) -> Verdict {
         Coding::OneByte => text = ascii(text, start),
         Coding::Other(place) => return refusal(bytes, 2, place, place),
     }
-    match prolog(text, start) {
+    match prolog(text, start, names) {
         Ok(found) => Verdict {
             doctype: found.doctype,
             unread: found.unread,
@@ -151,11 +153,12 @@ struct Prolog {
 }
 
 /// "Production 22 [..]; after it `<` and a Name."
-fn prolog(text: &str, start: usize) -> Read<Prolog> {
+fn prolog(text: &str, start: usize, names: Names) -> Read<Prolog> {
     let mut r = Reader {
         text,
         at: start,
         within: Within::Prolog,
+        names,
     };
     if is_declaration(r.rest()) {
         declaration(&mut r)?;
@@ -197,7 +200,7 @@ fn root(r: &Reader<'_>) -> Read {
     if !rest.starts_with('<') || rest.starts_with("<!") {
         return Err(Stop::At(8, r.at));
     }
-    if !rest[1..].starts_with(is_name_start_char) {
+    if !rest[1..].starts_with(|c| r.names.begin_with(c)) {
         return Err(Stop::At(4, r.at + 1));
     }
     Ok(())
@@ -213,7 +216,7 @@ fn miscellaneous<'a>(r: &mut Reader<'a>, item: fn(&mut Reader<'a>) -> Read) -> R
         Err(Stop::Ends(_)) => return answer,
     };
     let text = format!("a[{}]", &r.text[start..r.at]);
-    assert_eq!(number, doctype_number(&text), "{text:?}");
+    assert_eq!(number, doctype_number(&text, r.names), "{text:?}");
     answer
 }
 
@@ -225,7 +228,7 @@ fn whole_doctype(r: &mut Reader<'_>) -> Read<((usize, usize), usize)> {
     let (start, rest) = (r.at, r.rest());
     let read = doctype(r);
     if let Err(Stop::At(number, _)) = read {
-        assert_eq!(number, doctype_number(rest), "{rest:?}");
+        assert_eq!(number, doctype_number(rest, r.names), "{rest:?}");
     }
     let end = r.at;
     let read = match read {
@@ -233,10 +236,11 @@ fn whole_doctype(r: &mut Reader<'_>) -> Read<((usize, usize), usize)> {
         read => read,
     };
     let unread = read.map_err(|stop| unless_closed(stop, r, sign))?;
-    assert_eq!(first_end(rest, end - start), Some(end - start), "{rest:?}");
+    let length = end - start;
+    assert_eq!(first_end(rest, length, r.names), Some(length), "{rest:?}");
     r.within = Within::Prolog;
     // "A DOCTYPE's text has at most 1,048,576 bytes."
-    if end - start > LIMIT {
+    if length > LIMIT {
         return Err(Stop::At(1, sign));
     }
     Ok(((start, end), unread))
@@ -251,11 +255,11 @@ fn unless_closed(stop: Stop, r: &Reader<'_>, sign: usize) -> Stop {
     }
 }
 
-/// The first `>` before which the unchanged Rust accepts everything. In a long text only the one at `likely` is tried.
-fn first_end(rest: &str, likely: usize) -> Option<usize> {
+/// The first `>` before which the Rust accepts everything. In a long text only the one at `likely` is tried.
+fn first_end(rest: &str, likely: usize, names: Names) -> Option<usize> {
     const LONG: usize = 2000;
     let mut ends = rest.match_indices('>').map(|(k, _)| k);
-    ends.find(|k| (*k == likely || likely < LONG) && doctype_number(&rest[..*k]) == 0)
+    ends.find(|k| (*k == likely || likely < LONG) && doctype_number(&rest[..*k], names) == 0)
 }
 
 /// Whether production 23 begins here: `<?xml`, and then neither goes the target on nor does the text end.
@@ -352,6 +356,8 @@ fn encoding(text: &str, start: usize) -> Option<Piece<'_>> {
         text,
         at: start,
         within: Within::Prolog,
+        // none is read in a declaration
+        names: Names::AppendixB,
     };
     if !is_declaration(r.rest()) {
         return None;
@@ -394,6 +400,7 @@ pub fn declaration_stop(text: &str) -> (u8, usize) {
         text,
         at: 0,
         within: Within::Part,
+        names: Names::AppendixB,
     };
     match declared(&mut d) {
         Ok(_) => (0, d.at),

@@ -1,5 +1,6 @@
 //! The gate: the Rust's checker, and the count of refusals that is added to it.
 use crate::answers::{admit, doctype_number};
+use crate::editions::Names;
 use crate::numbers::of_wrapped;
 use crate::parser::checks::{WellformedChecker, reached};
 
@@ -98,7 +99,7 @@ impl Gate {
             0 if opened => OPEN,
             18 | 21 => number,
             // the Rust has checked the grammar, without the limit of 64 groups
-            _ => match doctype_number(text) {
+            _ => match doctype_number(text, Names::AppendixB) {
                 20 => 20,
                 same => {
                     assert_eq!(same, number, "check_doctype and doctype differ on {text:?}");

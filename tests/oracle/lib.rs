@@ -38,11 +38,19 @@ mod parser {
     pub(crate) use crate::stubs::source;
 }
 
+/// The copies with the fifth edition's names. They name what they use of each other as the files in `parser` do.
+mod fifth {
+    pub(crate) mod dtd;
+    pub(crate) use crate::parser::error;
+    pub(crate) mod wellformed;
+}
+
 mod answers;
 mod declarations;
 mod depth;
 mod doctypes;
 mod document;
+mod editions;
 mod gate;
 mod numbers;
 pub mod raw;

@@ -1,5 +1,5 @@
 //! A place in a text, what is read there, and what stops the reading. Written from docs/SCOPE.md, "Reading" and "A whole document".
-use crate::parser::wellformed::{is_name_char, is_name_start_char};
+use crate::editions::Names;
 
 /// Why a reading stops.
 #[derive(Clone, Copy, PartialEq, Eq, Debug)]
@@ -40,6 +40,7 @@ pub struct Reader<'a> {
     pub text: &'a str,
     pub at: usize,
     pub within: Within,
+    pub names: Names,
 }
 
 impl<'a> Reader<'a> {
@@ -49,6 +50,7 @@ impl<'a> Reader<'a> {
             text: &self.text[..piece.end()],
             at: piece.start,
             within: Within::Part,
+            names: self.names,
         }
     }
 
@@ -106,9 +108,9 @@ impl<'a> Reader<'a> {
         Err(self.refuse(3))
     }
 
-    /// Production 5, with the letters of Appendix B.
+    /// Production 5, with the characters of Appendix B or of the fifth edition.
     pub fn name(&mut self) -> Read<Piece<'a>> {
-        if !self.next().is_some_and(is_name_start_char) {
+        if !self.next().is_some_and(|c| self.names.begin_with(c)) {
             return Err(self.refuse(4));
         }
         self.token()
@@ -117,7 +119,8 @@ impl<'a> Reader<'a> {
     /// Production 7.
     pub fn token(&mut self) -> Read<Piece<'a>> {
         let start = self.at;
-        self.at = self.text.len() - self.rest().trim_start_matches(is_name_char).len();
+        let rest = self.rest().trim_start_matches(|c| self.names.go_on_with(c));
+        self.at = self.text.len() - rest.len();
         if self.at == start {
             return Err(self.refuse(4));
         }
@@ -189,5 +192,19 @@ pub fn no_colon(name: Piece<'_>) -> Read {
     match name.text.find(':') {
         Some(k) => Err(Stop::At(5, name.start + k)),
         None => Ok(()),
+    }
+}
+
+/// What `check_name_at` has to answer: the number and the place. A name goes up to the text's end.
+pub fn name_stop(text: &str, names: Names) -> (u8, usize) {
+    let mut r = Reader {
+        text,
+        at: 0,
+        within: Within::Part,
+        names,
+    };
+    match r.name() {
+        Ok(_) if r.at_end() => (0, r.at),
+        _ => (4, r.at),
     }
 }
