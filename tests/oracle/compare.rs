@@ -11,6 +11,7 @@ mod places;
 mod port;
 mod prologs;
 mod random;
+mod scripts;
 
 use oracle::{Gate, Record, answer, record_text};
 
@@ -24,6 +25,8 @@ const STACK: usize = 1 << 30;
 fn judge(call: &str) -> &'static str {
     match call {
         "check_document" => "the reference",
+        "check_document_fifth" => "the reference with the fifth edition's names",
+        _ if call.ends_with("_fifth") => "the Rust with the fifth edition's names",
         _ => "the Rust",
     }
 }
@@ -111,8 +114,10 @@ fn placed(path: &str, k: usize, plain: &str, line: &lists::Line) -> bool {
         && answer(&line.call, &line.text).is_none_or(|a| a == line.answer);
     if !right {
         println!(
-            "{path}:{k}: {}: the list says {}, the Rust {number:?}, the port {given:?}",
-            line.call, line.answer
+            "{path}:{k}: {}: the list says {}, {} {number:?}, the port {given:?}",
+            line.call,
+            line.answer,
+            judge(plain)
         );
     }
     !right

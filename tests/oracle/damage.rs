@@ -13,6 +13,9 @@ const PIECES: &[&[u8]] = &[
     b"encoding='ISO-8859-1'", b"<a", b"</", b"<!", b"\r\n", b"\xef\xbb\xbf",
     // é, a combining mark, a middle dot, 日, U+0220, U+FFFF, U+10000; then bytes that are not UTF-8, and illegal characters
     b"\xc3\xa9", b"\xcc\x80", b"\xc2\xb7", b"\xe6\x97\xa5", b"\xc8\xa0", b"\xef\xbf\xbf", b"\xf0\x90\x80\x80",
+    // U+13A0, U+2C00, U+E0100, U+203F and U+36F are the fifth edition's; U+D7, U+37E, U+3000 and U+F0000 no edition's
+    b"\xe1\x8e\xa0", b"\xe2\xb0\x80", b"\xf3\xa0\x84\x80", b"\xe2\x80\xbf", b"\xcd\xaf", b"%\xe1\x8e\xa0",
+    b"\xc3\x97", b"\xcd\xbe", b"\xe3\x80\x80", b"\xf3\xb0\x80\x80",
     b"\xff", b"\x80", b"\xc3", b"\xed\xa0\x80", b"\x00", b"\x01", b"\x1f",
 ];
 

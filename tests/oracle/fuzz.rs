@@ -10,6 +10,14 @@ const CALLS: &[&str] = &[
     "check_doctype", "check_doctype", "check_doctype", "check_doctype", "scan", "scan", "check_declaration",
     "check_chars", "check_text", "check_attr_value", "check_char_refs", "check_name", "is_ncname", "utf8",
     "check_document", "check_document", "check_document", "check_document", "check_document",
+    "check_doctype_fifth", "check_doctype_fifth", "check_doctype_fifth", "check_name_fifth",
+    "check_document_fifth", "check_document_fifth", "check_document_fifth",
+];
+/// What the left call accepts the right one has to accept: each name of Appendix B is one of the fifth edition.
+const WIDER: &[(&str, &str)] = &[
+    ("check_name", "check_name_fifth"),
+    ("check_doctype", "check_doctype_fifth"),
+    ("check_document", "check_document_fifth"),
 ];
 const GATE_CALLS: &[&str] = &[
     "decl", "decl", "doctype0", "doctype0", "doctype0", "doctype1", "doctype2",
@@ -27,12 +35,16 @@ impl Samples {
     }
 }
 
+/// The kind of whole documents.
+const DOCUMENTS: usize = 3;
+
 fn kind(call: &str) -> usize {
-    match call.strip_suffix("_at").unwrap_or(call) {
+    let call = call.strip_suffix("_at").unwrap_or(call);
+    match call.strip_suffix("_fifth").unwrap_or(call) {
         "check_doctype" | "scan" | "doctype0" | "doctype1" | "doctype2" => 0,
         "check_declaration" | "decl" => 1,
         "check_name" | "is_ncname" | "name_part" => 2,
-        "check_document" => 3,
+        "check_document" => DOCUMENTS,
         _ => 4,
     }
 }
@@ -59,9 +71,11 @@ pub fn run(seed: u64, count: u64, samples: &Samples) -> (u64, u64) {
 fn text(random: &mut Random, call: &str, samples: &Samples) -> Vec<u8> {
     let alike = &samples.kinds[kind(call)];
     let whole = if alike.is_empty() || random.once_in(2) {
-        match call {
-            "check_document" => Generator { random }.document(),
-            _ => Generator { random }.text(call).into_bytes(),
+        let fifth = call.ends_with("_fifth");
+        let mut generator = Generator { random, fifth };
+        match kind(call) {
+            DOCUMENTS => generator.document(),
+            _ => generator.text(call).into_bytes(),
         }
     } else {
         alike[random.below(alike.len())].clone()
@@ -81,7 +95,7 @@ fn text(random: &mut Random, call: &str, samples: &Samples) -> Vec<u8> {
 fn single(random: &mut Random, samples: &Samples) -> u64 {
     let call = random.one(CALLS);
     let mut text = text(random, call, samples);
-    if call == "check_document" && random.once_in(4) {
+    if kind(call) == DOCUMENTS && random.once_in(4) {
         text.truncate(random.below(text.len() + 1));
     }
     differs(call, &text)
@@ -89,15 +103,15 @@ fn single(random: &mut Random, samples: &Samples) -> u64 {
 
 /// A document whole and cut at every byte.
 fn cuts(random: &mut Random, samples: &Samples) -> (u64, u64) {
-    const CALL: &str = "check_document";
-    let mut text = text(random, CALL, samples);
+    let call = random.one(&["check_document", "check_document", "check_document_fifth"]);
+    let mut text = text(random, call, samples);
     text.truncate(500);
-    let whole = answer(CALL, &text).unwrap();
+    let whole = answer(call, &text).unwrap();
     let mut differences = 0;
     for end in 0..=text.len() {
-        let begun = answer(CALL, &text[..end]).unwrap();
+        let begun = answer(call, &text[..end]).unwrap();
         assert!(stands(&begun, &whole, end), "{begun} but {whole}: {text:?}");
-        differences += differs(CALL, &text[..end]);
+        differences += differs(call, &text[..end]);
     }
     (text.len() as u64 + 1, differences)
 }
@@ -122,7 +136,24 @@ fn differs(call: &str, text: &[u8]) -> u64 {
         difference(call, &wanted, &given, text, usize::MAX);
         return 1;
     }
-    0
+    narrower(call, text)
+}
+
+/// 1 where the port refuses by the fifth edition's names what it accepts by Appendix B's. Asked of a call that is there for both.
+fn narrower(call: &str, text: &[u8]) -> u64 {
+    let asked = |pair: &&(&str, &str)| call == pair.0 || call == pair.1;
+    let Some((plain, fifth)) = WIDER.iter().find(asked) else {
+        return 0;
+    };
+    let told = |call: &str| port::answer(call, text).unwrap();
+    let accepts = |told: &str| told.split('@').next() == Some("0");
+    let given = told(fifth);
+    if accepts(&given) || !accepts(&told(plain)) {
+        return 0;
+    }
+    let given = format!("{given} by {fifth}");
+    difference(plain, "0", &given, text, usize::MAX);
+    1
 }
 
 /// One to six calls on a record that begins anywhere, and often where a document begins.

@@ -13,24 +13,26 @@ const NAMES: &[&str] = &[
     ":",
 ];
 const BAD_NAMES: &[&str] = &[
-    "", "1a", "-", "\u{220}", "a b", "%p", "!", "\u{300}", "a\u{2b0}",
+    "", "1a", "-", "\u{220}", "a b", "%p", "!", "\u{300}", "a\u{2b0}", "\u{13a0}", "a\u{36f}",
 ];
 #[rustfmt::skip]
 const VALUES: &[&str] = &[
     "", "x", "some words", "&#65;", "&#x4A;", "&#0065;", "&amp;", "%", "%p;", "100% x", ">", "]", "[", "it's",
     "say \"x\"", "--", "é日", "<", "&#0;", "&#;", "&#X41;", "&#x110000;", "&#4294967361;",
-    "&#18446744073709551681;", "\u{1}", "\u{fffe}",
+    "&#18446744073709551681;", "\u{1}", "\u{fffe}", "%\u{13a0};", "%\u{10000}", "%\u{203f}", "%\u{37e}",
 ];
 const SPACES: &[&str] = &[" ", "\t", "\r\n", "  "];
 
 pub struct Generator<'r> {
     pub random: &'r mut Random,
+    /// whether the text is for a call that reads the fifth edition's names
+    pub fifth: bool,
 }
 
 impl Generator<'_> {
     /// A text for a call.
     pub fn text(&mut self, call: &str) -> String {
-        match call {
+        match call.strip_suffix("_fifth").unwrap_or(call) {
             "check_doctype" | "scan" | "doctype0" | "doctype1" | "doctype2" => self.doctype(),
             "check_declaration" | "decl" => self.declaration(),
             "check_name" | "is_ncname" => {
@@ -46,7 +48,10 @@ impl Generator<'_> {
         self.random.one(of)
     }
 
-    fn name(&mut self) -> String {
+    pub fn name(&mut self) -> String {
+        if self.fifth && self.random.once_in(2) {
+            return self.fifth_name();
+        }
         let from = if self.random.once_in(25) {
             BAD_NAMES
         } else {

@@ -1,6 +1,6 @@
 //! The place of a refusal. The Rust tells none, so what is asked is that the number is the Rust's, and that what stands at the place is
-//! what the number speaks of: by the words of the table alone, without reading the text as the port does. Of a DOCTYPE and of an XML
-//! declaration it has to be the very place at which the reference's readers stop.
+//! what the number speaks of: by the words of the table alone, without reading the text as the port does. Of a name, of a DOCTYPE and of
+//! an XML declaration it has to be the very place at which the reference's readers stop.
 use crate::port;
 
 /// What is wrong with the form of a check that tells a place; None where all is well, or the call has no such form.
@@ -13,8 +13,9 @@ pub fn fault(call: &str, wanted: &str, text: &[u8]) -> Option<String> {
         return Some(format!("{number} at {place}"));
     }
     match oracle::stop(call, text) {
-        Some((_, wanted)) if wanted != place => Some(format!(
-            "{number} at {place}, where the reference stops at {wanted}"
+        Some(stop) if stop != (number, place) => Some(format!(
+            "{number} at {place}, where the reference stops with {} at {}",
+            stop.0, stop.1
         )),
         _ => None,
     }

@@ -26,6 +26,7 @@ struct RawVerdict {
 
 pub type Check = unsafe extern "C" fn(*const u8, usize) -> u8;
 type CheckAt = unsafe extern "C" fn(*const u8, usize, *mut usize) -> u8;
+type Judge = unsafe extern "C" fn(*const u8, usize, *mut RawVerdict) -> u8;
 
 unsafe extern "C" {
     fn moxkeldi_check_chars(text: *const u8, len: usize) -> u8;
@@ -33,16 +34,21 @@ unsafe extern "C" {
     fn moxkeldi_check_attr_value(text: *const u8, len: usize) -> u8;
     fn moxkeldi_check_char_refs(text: *const u8, len: usize) -> u8;
     fn moxkeldi_check_name(text: *const u8, len: usize) -> u8;
+    fn moxkeldi_check_name_fifth(text: *const u8, len: usize) -> u8;
     fn moxkeldi_check_doctype(text: *const u8, len: usize) -> u8;
+    fn moxkeldi_check_doctype_fifth(text: *const u8, len: usize) -> u8;
     fn moxkeldi_check_declaration(text: *const u8, len: usize) -> u8;
     fn moxkeldi_check_chars_at(text: *const u8, len: usize, place: *mut usize) -> u8;
     fn moxkeldi_check_text_at(text: *const u8, len: usize, place: *mut usize) -> u8;
     fn moxkeldi_check_attr_value_at(text: *const u8, len: usize, place: *mut usize) -> u8;
     fn moxkeldi_check_char_refs_at(text: *const u8, len: usize, place: *mut usize) -> u8;
     fn moxkeldi_check_name_at(text: *const u8, len: usize, place: *mut usize) -> u8;
+    fn moxkeldi_check_name_fifth_at(text: *const u8, len: usize, place: *mut usize) -> u8;
     fn moxkeldi_check_doctype_at(text: *const u8, len: usize, place: *mut usize) -> u8;
+    fn moxkeldi_check_doctype_fifth_at(text: *const u8, len: usize, place: *mut usize) -> u8;
     fn moxkeldi_check_declaration_at(text: *const u8, len: usize, place: *mut usize) -> u8;
     fn moxkeldi_check_document(text: *const u8, len: usize, verdict: *mut RawVerdict) -> u8;
+    fn moxkeldi_check_document_fifth(text: *const u8, len: usize, verdict: *mut RawVerdict) -> u8;
     fn moxkeldi_check_utf8(text: *const u8, len: usize) -> u8;
     fn moxkeldi_is_ncname(text: *const u8, len: usize, yes: *mut u8) -> u8;
     fn moxkeldi_scan(text: *const u8, len: usize, answer: *mut u8, place: *mut usize) -> u8;
@@ -57,7 +63,9 @@ pub const CHECKS: &[(&str, Check)] = &[
     ("check_attr_value", moxkeldi_check_attr_value),
     ("check_char_refs", moxkeldi_check_char_refs),
     ("check_name", moxkeldi_check_name),
+    ("check_name_fifth", moxkeldi_check_name_fifth),
     ("check_doctype", moxkeldi_check_doctype),
+    ("check_doctype_fifth", moxkeldi_check_doctype_fifth),
     ("check_declaration", moxkeldi_check_declaration),
 ];
 
@@ -68,7 +76,9 @@ const CHECKS_AT: &[(&str, CheckAt)] = &[
     ("check_attr_value", moxkeldi_check_attr_value_at),
     ("check_char_refs", moxkeldi_check_char_refs_at),
     ("check_name", moxkeldi_check_name_at),
+    ("check_name_fifth", moxkeldi_check_name_fifth_at),
     ("check_doctype", moxkeldi_check_doctype_at),
+    ("check_doctype_fifth", moxkeldi_check_doctype_fifth_at),
     ("check_declaration", moxkeldi_check_declaration_at),
 ];
 
@@ -98,7 +108,7 @@ pub fn scan(text: &[u8], mut answer: u8, mut place: usize) -> (u8, u8, usize) {
 }
 
 /// The verdict on a document, as the lists write it. What the call leaves as it was is seen as a difference.
-pub fn document(text: &[u8]) -> String {
+fn document(judge: Judge, text: &[u8]) -> String {
     const BEFORE: usize = usize::MAX;
     let mut verdict = RawVerdict {
         place: BEFORE,
@@ -110,7 +120,7 @@ pub fn document(text: &[u8]) -> String {
         doctype_end: BEFORE,
         unread: BEFORE,
     };
-    let number = unsafe { moxkeldi_check_document(text.as_ptr(), text.len(), &mut verdict) };
+    let number = unsafe { judge(text.as_ptr(), text.len(), &mut verdict) };
     let v = verdict;
     let doctype = match (v.has_doctype, v.doctype_start, v.doctype_end) {
         (0, 0, 0) => "-".to_string(),
@@ -132,7 +142,8 @@ pub fn answer(call: &str, text: &[u8]) -> Option<String> {
         return Some(format!("{number}@{place}"));
     }
     Some(match call {
-        "check_document" => document(text),
+        "check_document" => document(moxkeldi_check_document, text),
+        "check_document_fifth" => document(moxkeldi_check_document_fifth, text),
         "utf8" => match check_utf8(text) {
             0 => "0y".to_string(),
             number => format!("{number}n"),

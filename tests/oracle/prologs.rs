@@ -14,7 +14,7 @@ const ENCODINGS: &[&str] = &[
 const ROOTS: &[&str] = &[
     "<a/>", "<a/>", "<a>", "<a", "<b:c d='e'>", "<:", "<_1", "<été/>", "<Δ>", "<中>", "<a\u{1}", "<a<!DOCTYPE a>", "<xml/>",
     "", "<", "</a>", "<1/>", "< a/>", "<>", "<!a", "<![CDATA[a]]>", "<-", "a", "<\u{220}>", "<\u{300}>", "&a;", "\u{feff}<a/>",
-    "<\u{1}", "<\u{ffff}",
+    "<\u{1}", "<\u{ffff}", "<\u{13a0}/>",
 ];
 
 impl Generator<'_> {
@@ -39,7 +39,11 @@ impl Generator<'_> {
             };
             text += &self.miscellaneous();
         }
-        text += self.mostly(&ROOTS[..12], ROOTS);
+        if self.fifth && self.random.once_in(2) {
+            text += &format!("<{}>", self.name());
+        } else {
+            text += self.mostly(&ROOTS[..12], ROOTS);
+        }
         self.coded(&text)
     }
 
@@ -60,19 +64,25 @@ impl Generator<'_> {
     }
 
     fn whole_doctype(&mut self) -> String {
-        format!("<!DOCTYPE{}>", self.sound("check_doctype"))
+        format!("<!DOCTYPE{}>", self.sound(self.check_doctype()))
+    }
+
+    /// The call that a document's DOCTYPE is for.
+    fn check_doctype(&self) -> &'static str {
+        if self.fifth {
+            return "check_doctype_fifth";
+        }
+        "check_doctype"
     }
 
     fn miscellaneous(&mut self) -> String {
+        let call = self.check_doctype();
+        let fits = |item: &str| accepts(call, &format!("a[{item}]"));
         let mut text = self.maybe_space().to_string();
         for _ in 0..self.random.below(3) {
             text += &match self.random.below(3) {
-                0 => self.try_for(Self::comment, |item| {
-                    accepts("check_doctype", &format!("a[{item}]"))
-                }),
-                1 => self.try_for(Self::instruction, |item| {
-                    accepts("check_doctype", &format!("a[{item}]"))
-                }),
+                0 => self.try_for(Self::comment, fits),
+                1 => self.try_for(Self::instruction, fits),
                 _ => "<!-- é -->".to_string(),
             };
             text += self.maybe_space();
