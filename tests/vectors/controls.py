@@ -13,6 +13,9 @@ import sys
 
 DEEP = "a[<!ELEMENT b (c,d"
 DOCUMENT = "\n<!DOCTYPE a[%p;<!ELEMENT>]> <a"
+# the same with a name that only the fifth edition has, of three bytes
+FIFTH = "\u13a0"
+FIFTH_DOCUMENT = f"\n<!DOCTYPE a[%{FIFTH};<!ELEMENT>]> <{FIFTH}"
 
 # call, wrong answer, right answer, text
 CONTROLS = [
@@ -24,6 +27,8 @@ CONTROLS = [
     ("check_name", "4", "0", "a"),
     ("check_doctype", "9", "0", "a"),
     ("check_declaration", "0", "17", "xml version='1.'"),
+    ("check_name_fifth", "4", "0", FIFTH),
+    ("check_doctype_fifth", "4", "0", FIFTH),
     # a number, yes or no
     ("utf8", "2y", "0y", "a"),
     ("utf8", "0n", "0y", "a"),
@@ -49,6 +54,10 @@ CONTROLS = [
     ("check_doctype_at", f"13@{len(DEEP) - 1}", f"13@{len(DEEP)}", DEEP + "|e)>]"),
     ("check_doctype_at", f"8@{len(DEEP)}", f"13@{len(DEEP)}", DEEP + "|e)>]"),
     ("check_declaration_at", "17@0", "17@13", "xml version='1.'"),
+    ("check_name_fifth_at", "4@0", "4@3", FIFTH + " "),
+    ("check_name_fifth_at", "0@3", "4@3", FIFTH + " "),
+    ("check_doctype_fifth_at", "9@3", "9@4", FIFTH + " " + FIFTH),
+    ("check_doctype_fifth_at", "4@4", "9@4", FIFTH + " " + FIFTH),
     # the verdict on a document: the number, and each of its parts
     ("check_document", "8@29:2:29/29/10-27/1", "0@29:2:29/29/10-27/1", DOCUMENT),
     ("check_document", "0@28:2:29/29/10-27/1", "0@29:2:29/29/10-27/1", DOCUMENT),
@@ -60,6 +69,15 @@ CONTROLS = [
     ("check_document", "0@29:2:29/29/-/1", "0@29:2:29/29/10-27/1", DOCUMENT),
     ("check_document", "0@29:2:29/29/10-27/0", "0@29:2:29/29/10-27/1", DOCUMENT),
     ("check_document", "7@4:1:5/4/-/0", "7@4:1:5/0/-/0", "<!--"),
+    ("check_document_fifth", "4@31:2:29/31/10-29/1", "0@31:2:29/31/10-29/1", FIFTH_DOCUMENT),
+    ("check_document_fifth", "0@29:2:29/31/10-29/1", "0@31:2:29/31/10-29/1", FIFTH_DOCUMENT),
+    ("check_document_fifth", "0@31:1:29/31/10-29/1", "0@31:2:29/31/10-29/1", FIFTH_DOCUMENT),
+    ("check_document_fifth", "0@31:2:31/31/10-29/1", "0@31:2:29/31/10-29/1", FIFTH_DOCUMENT),
+    ("check_document_fifth", "0@31:2:29/1/10-29/1", "0@31:2:29/31/10-29/1", FIFTH_DOCUMENT),
+    ("check_document_fifth", "0@31:2:29/31/1-29/1", "0@31:2:29/31/10-29/1", FIFTH_DOCUMENT),
+    ("check_document_fifth", "0@31:2:29/31/10-27/1", "0@31:2:29/31/10-29/1", FIFTH_DOCUMENT),
+    ("check_document_fifth", "0@31:2:29/31/-/1", "0@31:2:29/31/10-29/1", FIFTH_DOCUMENT),
+    ("check_document_fifth", "0@31:2:29/31/10-29/0", "0@31:2:29/31/10-29/1", FIFTH_DOCUMENT),
     # the gate: the number or "open", and each field of the record
     ("gate_set", "x", "-/0/0/0/0", ""),
     ("decl", "17/1/0/0/0", "0/1/0/0/0", "xml version='1.0'"),

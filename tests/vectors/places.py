@@ -80,6 +80,24 @@ DOCTYPES = [
     (9, "\u03c3\u1ff6\u03bc\u03b1[<!ENTITY \u65e5 '\U00010000'>]", "\u00e9"),
 ]
 
+# by the fifth edition's names
+FIFTH_DOCTYPES = [
+    (0, "\u13a0[<!ELEMENT \u13a1 (\u2c00|a\u036f)*>]", ""),
+    (9, "a\u13a0 ", "\u13a1"),
+    (9, "\u13a0", "\u3000"),
+    (4, "a[<!ELEMENT ", "\u203f ANY>]"),
+    (3, "a[<!ELEMENT b\u203f", "\u037e ANY>]"),
+    (4, "a[<!ELEMENT b (#PCDATA|\u200c|", "\u036f)*>]"),
+    (8, "a[<!ATTLIST b c (\u036f|\u203f", "\u3000) 'd'>]"),
+    (5, "a[<!ENTITY \u13a0", ":b 'c'>]"),
+    (4, "a[<?\u13a0", "\u00d7 b?>]"),
+    (8, "a[%\U000effff", "\U000f0000;]"),
+    # unread, and not
+    (0, "a[<!ELEMENT !! %\u13a0>]", ""),
+    (4, "a[<!ELEMENT ", "!! %\u203f>]"),
+    (15, "a[<!ENTITY e '%\u2ff0", "&#;'>]"),
+]
+
 DECLARATIONS = [
     (0, "xml version='1.0' encoding='UTF-8' standalone='yes' ", ""),
     (8, "", "XML version='1.0'"),
@@ -114,9 +132,15 @@ OTHERS = [
     ("check_name_at", 4, "", "-a"),
     ("check_name_at", 4, "a" * 70, " "),
     ("check_name_at", 4, "\u00e9\u03c3", "\u0220"),
+    ("check_name_fifth_at", 0, "\u00e9\u03c3\u0220", ""),
+    ("check_name_fifth_at", 0, "\u13a0\u036f\U00010000", ""),
+    ("check_name_fifth_at", 4, "", "\u036f\u13a0"),
+    ("check_name_fifth_at", 4, "\u13a0" * 40, "\u3000"),
+    ("check_name_fifth_at", 4, "a\U000effff", "\U000f0000"),
 ]
 
-CALLS = ["check_chars_at", "check_text_at", "check_attr_value_at", "check_char_refs_at", "check_name_at", "check_doctype_at", "check_declaration_at"]
+CALLS = ["check_chars_at", "check_text_at", "check_attr_value_at", "check_char_refs_at", "check_name_at", "check_doctype_at", "check_declaration_at",
+         "check_name_fifth_at", "check_doctype_fifth_at"]
 
 
 def line(call, number, place, digits):
@@ -126,6 +150,7 @@ def line(call, number, place, digits):
 def main():
     print("# Made by tests/vectors/places.py: the places are written by hand.")
     rows = [("check_doctype_at", *row) for row in DOCTYPES] + [("check_declaration_at", *row) for row in DECLARATIONS] + OTHERS
+    rows += [("check_doctype_fifth_at", *row) for row in FIFTH_DOCTYPES]
     for call, number, read_well, from_there in rows:
         front, rest = read_well.encode(), from_there.encode()
         line(call, number, len(front), (front + rest).hex())
