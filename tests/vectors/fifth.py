@@ -10,7 +10,7 @@ import sys
 
 # no folder of compiled files beside this one
 sys.dont_write_bytecode = True
-from documents import Documents, by_hand
+from documents import JOBS, Documents, by_hand
 from texts import NAMES, VALUES, Doctypes, around
 
 # Productions 4 and 4a, in their order; of 4a what it adds.
@@ -123,6 +123,12 @@ def named_documents():
             both("check_document", document.replace("@", name).encode())
 
 
+# By Appendix B's names the jobs stand among the other documents.
+def jobs():
+    for path in sorted(JOBS.glob("*.xml")):
+        line("check_document_fifth", path.read_bytes())
+
+
 def documents(seed, count):
     made = Documents(seed)
     made.doctypes = FifthDoctypes(seed)
@@ -137,6 +143,7 @@ def main():
     positions()
     doctypes(20261121, 180)
     named_documents()
+    jobs()
     documents(20261122, 40)
     print("# Made by tests/vectors/fifth.py: the answers are written by hand.")
     for row in HAND:

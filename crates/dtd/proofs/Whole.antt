@@ -61,6 +61,3 @@ pub ruleset ending = (read-ended, reading)
 pub ruleset whole = (doctype-refused, doctype-answered, needs)
 
 pub ruleset located = (stopping, whole-placed)
-
--- what a call of one edition searches, with `dialect` opened
-pub ruleset edition = (needs)

@@ -1,6 +1,5 @@
 -- What the public calls promise, by any edition's names: their rule agrees with the grammar, and its places lie within the text. Assumes
 -- nothing.
-use borrow.Author.Needs.{needs}
 use Rattle.spec.specs.Grammar.Names.{Name}
 use Rattle.spec.specs.Reading.Wellformed.{check-name}
 use Rattle.spec.proofs.Agreement.Accepts.{Agrees}
@@ -21,6 +20,3 @@ pub name-placed-by : (names : Names) → Placed (check-name (dialect names))
 name-placed-by names = name-placed (dialect names)
 
 pub ruleset located = (stopping, name-placed-by)
-
--- what a call of one edition searches, with `dialect` opened
-pub ruleset edition = (needs)

@@ -1,6 +1,6 @@
 -- `dtd::doctype::doctype_number` meets its contract. `dialect` is opened: its classes are the code's. Assumes nothing.
 use Rattle.classes.specs.Classes.{dialect}
-use Rattle.dtd.proofs.Whole.{edition}
+use borrow.Author.Needs.{needs}
 use Rattle.dtd.proofs.doctype.doctype_number.Statement.{statement}
 use Rattle.dtd.proofs.doctype.doctype_number.Tie as tie
 
@@ -9,5 +9,5 @@ unfolding dialect
 doctype-number-spec =
     tie.close
     (tie.spec
-    (λ c κs. search edition)  -- number-by-requires
-    (λ c. search edition))  -- returns
+    (λ c κs. search needs)  -- number-by-requires
+    (λ c. search needs))  -- returns
