@@ -26,9 +26,9 @@
 #include <stddef.h>
 #include <stdint.h>
 
-#define MOXKELDI_VERSION "0.2.0"
+#define MOXKELDI_VERSION "0.3.0"
 #define MOXKELDI_VERSION_MAJOR 0
-#define MOXKELDI_VERSION_MINOR 2
+#define MOXKELDI_VERSION_MINOR 3
 #define MOXKELDI_VERSION_PATCH 0
 
 /* An answer that is ignored is a text that was not checked: compilers that can, warn of it. */

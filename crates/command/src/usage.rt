@@ -32,7 +32,7 @@ pub fn twice() {
 
 // Answers whether it could be written.
 pub fn version() -> bool {
-    io::write_all(STDOUT_FILENO, b"moxkeldi 0.2.0\n")
+    io::write_all(STDOUT_FILENO, b"moxkeldi 0.3.0\n")
 }
 
 // Answers whether it could be written.
