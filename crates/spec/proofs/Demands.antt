@@ -123,6 +123,10 @@ fifth-accepts-name w n m b f z = let (h, l) = b .grammar .0 z in f .grammar .1 (
 pub fifth-accepts-doctype : (w : List ℕ) (n m : ℕ) → ChecksDoctype appendix-B w n → ChecksDoctype fifth-edition w m → n ≡ 0 → m ≡ 0
 fifth-accepts-doctype w n m b f z = let (h, l) = b .grammar .0 z in f .grammar .1 (h, fifth-doctypes w l)
 
+pub fifth-accepts-document : (whole : Bool) (w : List ℕ) → number-in (check-document appendix-B whole w) ≡ 0 → number-in (check-document fifth-edition whole w) ≡ 0
+fifth-accepts-document whole w z =
+    document-right fifth-edition fifth-edition-ascii whole w .1 (fifth-documents (unmarked w) (document-right appendix-B appendix-B-ascii whole w .0 z))
+
 module _ (D : Dialect) (A : AsciiNames D) where
   -- Demand 3: an accepted DOCTYPE has no subset, or a division into entries; not both, and not two.
   pub accepted-divided : (w : List ℕ) → doctypedecl D w ↔ (Front D w ⊎ Division D w)
