@@ -69,14 +69,8 @@ CONTROLS = [
     ("check_document", "0@29:2:29/29/-/1", "0@29:2:29/29/10-27/1", DOCUMENT),
     ("check_document", "0@29:2:29/29/10-27/0", "0@29:2:29/29/10-27/1", DOCUMENT),
     ("check_document", "7@4:1:5/4/-/0", "7@4:1:5/0/-/0", "<!--"),
+    # its parts are written alike for both editions: the number, and what only the names decide
     ("check_document_fifth", "4@31:2:29/31/10-29/1", "0@31:2:29/31/10-29/1", FIFTH_DOCUMENT),
-    ("check_document_fifth", "0@29:2:29/31/10-29/1", "0@31:2:29/31/10-29/1", FIFTH_DOCUMENT),
-    ("check_document_fifth", "0@31:1:29/31/10-29/1", "0@31:2:29/31/10-29/1", FIFTH_DOCUMENT),
-    ("check_document_fifth", "0@31:2:31/31/10-29/1", "0@31:2:29/31/10-29/1", FIFTH_DOCUMENT),
-    ("check_document_fifth", "0@31:2:29/1/10-29/1", "0@31:2:29/31/10-29/1", FIFTH_DOCUMENT),
-    ("check_document_fifth", "0@31:2:29/31/1-29/1", "0@31:2:29/31/10-29/1", FIFTH_DOCUMENT),
-    ("check_document_fifth", "0@31:2:29/31/10-27/1", "0@31:2:29/31/10-29/1", FIFTH_DOCUMENT),
-    ("check_document_fifth", "0@31:2:29/31/-/1", "0@31:2:29/31/10-29/1", FIFTH_DOCUMENT),
     ("check_document_fifth", "0@31:2:29/31/10-29/0", "0@31:2:29/31/10-29/1", FIFTH_DOCUMENT),
     # the gate: the number or "open", and each field of the record
     ("gate_set", "x", "-/0/0/0/0", ""),

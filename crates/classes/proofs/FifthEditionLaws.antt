@@ -1,7 +1,7 @@
 -- The fifth edition's classes: what the code tests first and what it leaves come to the grammar's classes. Assumes nothing.
 use mathlib.Core.Path.{_≡_, refl, sym, _∙_}
 use mathlib.Core.Bool.{Bool, true, false, _||_}
-use Prim.Native.Nat.{ℕ, _<_, _≤_}
+use Prim.Native.Nat.{ℕ, _<_}
 use native.Mathlib.Omega.{arith}
 use Rattle.spec.specs.Basics.{within}
 use Rattle.spec.specs.Grammar.FifthEdition.{name-start-chars, added-chars, name-start-char, name-char}

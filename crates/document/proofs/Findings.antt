@@ -9,7 +9,6 @@ use lib.ListN.{length, take, drop, take-append-drop}
 use lib.Seq.{length-take-le}
 use Rattle.spec.specs.Basics.{pick}
 use Rattle.spec.specs.Grammar.Names.{Dialect}
-use Rattle.spec.specs.Grammar.Characters.{xml-char}
 use Rattle.spec.specs.Grammar.Encodings as Rule
 use Rattle.spec.specs.Grammar.Encodings.{Encoding, unnamed, class-of, coding-in}
 use Rattle.spec.specs.Grammar.Prolog.{no-doctype, from-to}

@@ -36,9 +36,9 @@ abbrev pub Unreads : Dialect → List ℕ → Doctype-text → ℕ → Type 0
 Unreads D w no-doctype n = n ≡ 0
 Unreads D w (from-to i j) n = CountsUnread D (take (j - i) (drop i w)) n
 
--- check_document answers with v by the names of D, of a text that is all of a document, or its beginning. Each field is the order of reading's; the lines and
--- columns are those of the text without its byte order mark. What is accepted is what the grammar has, with the grammar's one prolog and its
--- DOCTYPE. The places lie within the text.
+-- check_document answers with v, by the names of D, of a text that is all of a document, or its beginning. Each field is the order of
+-- reading's; the lines and columns are those of the text without its byte order mark. What is accepted is what the grammar has, with the
+-- grammar's one prolog and its DOCTYPE. The places lie within the text.
 pub record Judges (D : Dialect) (whole : Bool) (w : List ℕ) (v : Verdict) : Type 0 where
   pub number : v .number ≡ number-in (check-document D whole w)
   pub place : v .place ≡ place-in (check-document D whole w)

@@ -56,8 +56,8 @@ unfoldable pub fields-of : Verdict → List ℕ
 fields-of v =
     v .place ∷ v .line ∷ v .column ∷ v .opened ∷ bit (v .«has_doctype») ∷ v .«doctype_start» ∷ v .«doctype_end» ∷ v .unread ∷ []
 
--- moxkeldi_check_document, or that of another edition's names, returns n and leaves these numbers in *verdict: the promise of the check of a
--- document that is at hand as a whole
+-- moxkeldi_check_document (D is appendix-B) and moxkeldi_check_document_fifth (fifth-edition) return n and leave these numbers in *verdict: the
+-- promise of the check of a document that is at hand as a whole
 pub record JudgesInto (D : Dialect) (w : List ℕ) (n : ℕ) (fields : List ℕ) : Type 0 where
   pub verdict : Verdict
   pub judges : Judges D true w verdict

@@ -2,7 +2,6 @@
 -- Assumes nothing.
 use mathlib.Core.Bool.{Bool, true, false, _&&_, _||_, true≢false, or-true}
 use mathlib.Core.List.{List, [], _∷_}
-use mathlib.Core.Logic.{⊎-elim}
 use mathlib.Core.Path.{_≡_, sym}
 use Prim.Native.Nat.{ℕ}
 use Prim.Native.String.{String}
@@ -11,7 +10,7 @@ use lib.Dec.{leb}
 use Rattle.spec.specs.Basics.{within}
 use Rattle.spec.specs.Grammar.Languages.{ascii, one-of}
 use Rattle.spec.specs.Grammar.Ranges.{in-table}
-use Rattle.spec.proofs.Base.Tests.{each-of, each-at, leb-true, or-cases, or-elim, and-left, and-right, within-yes, within-lo, within-hi}
+use Rattle.spec.proofs.Base.Tests.{each-of, each-at, leb-true, or-elim, and-left, and-right, within-yes, within-lo, within-hi}
 
 -- one range of the table reaches from lo to hi
 unfoldable pub spans : List ℕ → ℕ → ℕ → Bool

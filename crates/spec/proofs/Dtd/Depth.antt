@@ -12,7 +12,7 @@ use Rattle.spec.specs.Basics.{pick, limit}
 use Rattle.spec.specs.Grammar.Characters.{Text}
 use Rattle.spec.specs.Grammar.Names.{Dialect, with-groups}
 use Rattle.spec.specs.Reading.Dtd.{doctype-before, check-doctype}
-use Rattle.spec.specs.Reading.Readers.{Result, ok, err, Reader, number-of, on-ok, at-end}
+use Rattle.spec.specs.Reading.Readers.{Result, ok, err, number-of, on-ok, at-end}
 use Rattle.spec.specs.Reading.Refusals.{Refusal, too-long, not-utf8, trailing, too-deep}
 use Rattle.spec.specs.Reading.Source.{utf8, admit, checked}
 use Rattle.spec.proofs.Base.Results.{err-place}

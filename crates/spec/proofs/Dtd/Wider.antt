@@ -1,15 +1,16 @@
--- Of two dialects one holds the other: then it derives every DOCTYPE that the other does, and every document's prolog. A lemma for each
+-- Of two dialects one holds the other: then it derives every name, comment, instruction and DOCTYPE that the other does. A lemma for each
 -- production, by its shape. Assumes nothing.
 use mathlib.Core.Bool.{Bool, true, false}
 use mathlib.Core.Path.{_≡_}
 use Prim.Native.Nat.{ℕ, zero, suc, _≤_}
 use native.Mathlib.Omega.{arith}
 use Rattle.spec.specs.Grammar.AppendixB.{appendix-B}
+use Rattle.spec.specs.Grammar.Characters.{S?}
 use Rattle.spec.specs.Grammar.ContentModels.{choice, sequence, cp, Group, children, Mixed, contentspec}
 use Rattle.spec.specs.Grammar.Declarations.{listed, PI, element-body, AttType, AttDef, attlist-body, NDataDecl, entity-body, notation-body, Unread, declared, markupdecl}
 use Rattle.spec.specs.Grammar.Doctype.{intSubset, doctypedecl, Misc}
 use Rattle.spec.specs.Grammar.FifthEdition.{fifth-edition}
-use Rattle.spec.specs.Grammar.Languages.{Lang}
+use Rattle.spec.specs.Grammar.Languages.{Lang, lit, _·_, Star}
 use Rattle.spec.specs.Grammar.Names.{Dialect, Name, Nmtoken, NCName, PITarget, PEReference}
 use Rattle.spec.proofs.Agreement.Wider.{_⊑_, same, ch, _··_, _∣∣_, star, less, also}
 use Rattle.spec.proofs.Characters.FifthEdition.{starts-held, parts-held}
@@ -28,13 +29,17 @@ choices : {L M : Lang} → L ⊑ M → choice L ⊑ choice M
 unfolding choice
 choices i = same ·· same ·· i ·· ((same ·· same ·· same ·· i) ·· star (same ·· same ·· same ·· i)) ·· same ·· same
 
+-- in parentheses, with a sign between
+rows : {sign L M : Lang} → L ⊑ M → (lit "(" · S? · L · Star (S? · sign · S? · L) · S? · lit ")") ⊑ (lit "(" · S? · M · Star (S? · sign · S? · M) · S? · lit ")")
+rows i = same ·· same ·· i ·· star (same ·· same ·· same ·· i) ·· same ·· same
+
 sequences : {L M : Lang} → L ⊑ M → sequence L ⊑ sequence M
 unfolding sequence
-sequences i = same ·· same ·· i ·· star (same ·· same ·· same ·· i) ·· same ·· same
+sequences i = rows i
 
 lists : {L M : Lang} → L ⊑ M → listed L ⊑ listed M
 unfolding listed
-lists i = same ·· same ·· i ·· star (same ·· same ·· same ·· i) ·· same ·· same
+lists i = rows i
 
 module _ {D E : Dialect} (W : Wider D E) where
   -- names: [5], [7], NCName, [17], [69]
