@@ -1,4 +1,6 @@
 // wellformed.rs, its first half: characters, and references to them.
+#![tactic(auto)]
+
 mod calls;
 mod chars;
 mod references;

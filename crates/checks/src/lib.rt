@@ -1,4 +1,6 @@
 // checks.rs: the XML declaration. (NCNames are crate `ncnames`, the quick scan is `scan`, the gate `gate`.)
+#![tactic(auto)]
+
 mod declaration;
 mod encoding;
 mod values;

@@ -1,5 +1,7 @@
 // The classes of name characters, [4] NameStartChar and [4a] NameChar: of Appendix B of W3C XML 1.0's earlier editions, and of the fifth
 // edition's section 2.3.
+#![tactic(auto)]
+
 mod appendix_b;
 mod fifth_edition;
 mod ranges;

@@ -1,5 +1,7 @@
 // Checks the prolog of the files that its arguments name, and says what it finds. The check is document::check_document; what stands here
 // reads arguments and files and writes reports.
+#![tactic(auto)]
+
 ghost use Rattle.std.specs.Prelude.{◌≡◌, length};
 
 mod bytes;

@@ -1,4 +1,6 @@
 // The Cursor of dtd.rs as functions of a text and a place, on any bytes and at any place: white space, fixed words, literals and names.
+#![tactic(auto)]
+
 mod literals;
 mod space;
 mod tokens;

@@ -1,5 +1,7 @@
 // Attribute-list, entity and notation declarations of dtd.rs, each read from a text of its own: what stands between its keyword and
 // its '>'.
+#![tactic(auto)]
+
 mod ahead;
 mod attlists;
 mod entities;

@@ -1,4 +1,6 @@
 // dtd.rs, its outermost part: the DOCTYPE. Its internal subset is in crate `subset`.
+#![tactic(auto)]
+
 mod doctype;
 
 pub use doctype::{

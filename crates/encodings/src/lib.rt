@@ -1,4 +1,6 @@
 // Encodings: which one a document's first bytes show, which one its XML declaration names, and how far a text can be read in it.
+#![tactic(auto)]
+
 mod codings;
 mod ends;
 mod legal;

@@ -1,5 +1,7 @@
 // The entries of a DOCTYPE's internal subset, and which declarations among them went unread because of parameter entities: how many,
 // and where each stands.
+#![tactic(auto)]
+
 mod count;
 mod kinds;
 mod walk;

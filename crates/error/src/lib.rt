@@ -1,4 +1,6 @@
 // error.rs: NotWellFormed as a number of the table of docs/SCOPE.md, and the answer of a reader.
+#![tactic(auto)]
+
 mod numbers;
 
 pub use numbers::{number, stopped};

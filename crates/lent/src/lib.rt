@@ -1,5 +1,7 @@
 // The Cursor of dtd.rs as a struct that refers to the lent text. Its functions are few and thin: each takes the struct apart and calls
 // one function of a text and a place. Where the Rust moves the cursor that it was lent, skip_s hands back a cursor that has moved.
+#![tactic(auto)]
+
 mod places;
 
 ghost use Rattle.std.specs.Prelude.{◌≡◌, ◌+◌, leb, length, take, drop};

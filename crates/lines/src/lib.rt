@@ -1,5 +1,7 @@
 // A place as a line and a column, both from 1. A place past the end counts as the end. A line ends with CR, with LF, or with the two
 // together (W3C XML 1.0, section 2.11).
+#![tactic(auto)]
+
 ghost use Rattle.std.specs.Prelude.{◌≡◌};
 ghost use Rattle.lines.specs.Lines.{ends_line, on_line, continues, line, column};
 

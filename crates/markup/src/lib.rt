@@ -1,5 +1,7 @@
 // The pieces of dtd.rs's internal subset that fixed words delimit: bodies of declarations, comments, processing instructions and
 // parameter-entity references. Each is a function of a text and a place, for all bytes and all places.
+#![tactic(auto)]
+
 mod bodies;
 mod comments;
 mod instructions;

@@ -1,4 +1,6 @@
 // Content models: parse_contentspec, parse_mixed, parse_children, parse_cp and parse_group of dtd.rs (productions 46 to 51).
+#![tactic(auto)]
+
 ghost use Rattle.std.specs.Prelude.{◌≡◌, [], ◌∷◌, drop};
 ghost use Rattle.spec.specs.Reading.Readers.{starts};
 ghost use Rattle.spec.specs.Reading.Refusals.{too_deep};

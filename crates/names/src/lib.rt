@@ -1,4 +1,6 @@
 // Names: the part of wellformed.rs that reads them, parse_name and the loop of parse_nmtoken of dtd.rs.
+#![tactic(auto)]
+
 ghost use Rattle.std.specs.Prelude.{◌≡◌, true, ◌+◌, drop};
 ghost use Rattle.spec.specs.Grammar.Names.{Name};
 ghost use Rattle.spec.specs.Promises.{Checks, Stops};

@@ -1,4 +1,6 @@
 // Names without a colon: is_ncname of checks.rs.
+#![tactic(auto)]
+
 ghost use Rattle.spec.specs.Grammar.AppendixB.{appendix_b};
 ghost use Rattle.spec.specs.Grammar.Names.{NCName};
 ghost use Rattle.spec.specs.Promises.{Tells};

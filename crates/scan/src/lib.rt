@@ -1,4 +1,6 @@
 // checks.rs: the quick scan of a front part of a document, which says whether the DOCTYPE's internal subset has opened and closed.
+#![tactic(auto)]
+
 mod calls;
 mod subset;
 

@@ -1,5 +1,7 @@
 // Fixed words and single bytes in a text: whether one stands at a place, and where it first stands, anywhere or outside quotes. Every
 // reader goes by these.
+#![tactic(auto)]
+
 mod bytes;
 mod keywords;
 mod places;

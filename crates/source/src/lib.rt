@@ -1,4 +1,6 @@
 // source.rs: what stands in front of every public call.
+#![tactic(auto)]
+
 ghost use Rattle.std.specs.Prelude.{◌≡◌};
 ghost use Rattle.spec.specs.Grammar.Characters.{Text};
 ghost use Rattle.spec.specs.Reading.Readers.{nothing};

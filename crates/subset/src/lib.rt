@@ -1,4 +1,6 @@
 // dtd.rs, the internal subset: declarations by their keyword, and the entries one after the other.
+#![tactic(auto)]
+
 mod declarations;
 mod subset;
 

@@ -1,4 +1,6 @@
 // UTF-8 (RFC 3629): the code point at a place, whether a text is UTF-8, and where it stops being so.
+#![tactic(auto)]
+
 mod blocks;
 
 ghost use Rattle.std.specs.Prelude.{◌≡◌, true, false, ◌||◌, ◌+◌, ◌*◌, ◌%◌, ◌≤◌, drop, get_or, length};

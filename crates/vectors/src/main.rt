@@ -1,6 +1,8 @@
 // Runs vectors: reads lines `call TAB answer TAB text` from standard input, asks the library for the
 // answer to each call that is known, writes a line for each answer that differs, and at the end how
 // many there were.
+#![tactic(auto)]
+
 ghost use Rattle.std.specs.Prelude.{◌≡◌, length};
 
 mod bytes;

@@ -1,4 +1,6 @@
 // wellformed.rs, its second half: text and attribute values. Characters and references are in crate `chars`, names in crate `names`.
+#![tactic(auto)]
+
 mod calls;
 mod text;
 

@@ -183,7 +183,8 @@ bare_quoting (b ∷ w) h =
     let here : (none_of "\"']" b && not (starts (ascii "<!--") (b ∷ w))) ≡ true = and_left (none_of "\"']" b && not (starts (ascii "<!--") (b ∷ w))) (bare w) h in
     let n : one_of "\"']" b ≡ false = not-true (one_of "\"']" b) (and_left (none_of "\"']" b) (not (starts (ascii "<!--") (b ∷ w))) here) in
     let (p, q) = bare_quoting w (and_right (none_of "\"']" b && not (starts (ascii "<!--") (b ∷ w))) (bare w) h) in
-    rw (none_sub (ascii "\"'") (ascii "\"']") tt b n, none_sub (ascii "]") (ascii "\"']") tt b n, and_right (none_of "\"']" b) (not (starts (ascii "<!--") (b ∷ w))) here) (p, q)
+    let m : one_of "\"'" b ≡ false = none_sub (ascii "\"'") (ascii "\"']") tt b n in
+    (rw (m, paired) p, rw (m, none_sub (ascii "]") (ascii "\"']") tt b n, and_right (none_of "\"']" b) (not (starts (ascii "<!--") (b ∷ w))) here) q)
 
 -- the entries of a subset: what a declaration begins with
 clear_keyword : (b : ℕ) (x : List ℕ) → eqb b 45 ≡ false → T (every_plain (b ∷ x)) → Clear (subset_end 0 0) (60 ∷ 33 ∷ b ∷ x)

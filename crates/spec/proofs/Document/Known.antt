@@ -326,22 +326,27 @@ module _ (D : Dialect) where
       go true g f = (rooted_front y e (opened_closing y (record { it = g })).known, λ v. rw (contains_longer (ascii ">") y v g))
       go false g f = absurd (firm_after "<!" unexpected (refuse unterminated) Any None y e f refl)
 
+  some_left_front : (x : List ℕ) → 0 < length x → (v : List ℕ) → some_left (x ++ v) ≡ some_left x
+  unfolding some_left
+  some_left_front [] l v = absurd (let z : 0 < 0 = l in omega arith)
+  some_left_front (b ∷ x) l v = refl
+
+  bang_front : (z : List ℕ) → starts (ascii "<!") (ascii "<!DOCTYPE" ++ z) ≡ true
+  unfolding starts
+  bang_front z = refl
+
+  doctype_bang : (y : List ℕ) → starts (ascii "<!DOCTYPE") y ≡ true → starts (ascii "<!") y ≡ true
+  doctype_bang y e = let (z, f) = starts_split (ascii "<!DOCTYPE") y e in rw f (bang_front z)
+
   steady_tag : (y : List ℕ) → ((z : List ℕ) → y ≡ 60 ∷ z → Star (Ch any) z) → Steady Any Known None (read_tag D) y
   unfolding read_tag on
   steady_tag y t =
       steady_weaker (λ z k. k.known) (λ z n. n)
-      (steady_choose some_left (λ k v. left y k.known.some v)
+      (steady_choose some_left (λ k v. some_left_front y k.known.some v)
       (λ l. steady_choose (starts (ascii "<!DOCTYPE")) (λ k v. k.known.doctype v)
-      (λ e. steady_refuse out_of_order (rooted_front y (shorter e) (known_doctype y e)))
+      (λ e. steady_refuse out_of_order (rooted_front y (doctype_bang y e) (known_doctype y e)))
       (λ e. steady_choose (starts (ascii "<!")) (λ k v. k.bang v) (λ g. steady_other y g) (λ g. steady_root y g l t)))
       (λ l. steady_unended))
-    where
-      left : (x : List ℕ) → 0 < length x → (v : List ℕ) → some_left (x ++ v) ≡ some_left x
-      left [] l v = absurd (let z : 0 < 0 = l in omega arith)
-      left (b ∷ x) l v = unfold some_left in refl
-
-      shorter : starts (ascii "<!DOCTYPE") y ≡ true → starts (ascii "<!") y ≡ true
-      shorter e = let (z, f) = starts_split (ascii "<!DOCTYPE") y e in rw f (unfold starts in refl)
 
   pub steady_beginning : (x : List ℕ) → Star (Ch any) x → Steady Any Decided None (read_beginning D) x
   unfolding read_beginning Text

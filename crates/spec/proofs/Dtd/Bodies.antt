@@ -112,7 +112,8 @@ del_quoted : (q : ℕ) (p : ℕ → Bool) (x d y : List ℕ) → suc q < 128 →
     → Star (Ch p) d → x ≡ suc q ∷ (d ++ (suc q ∷ [])) → del 0 (x ++ y) ≡ del 0 y
 unfolding del
 del_quoted q p x d y l n gt qt s e =
-    rw (e, append_assoc d (suc q ∷ []) y, gt, qt, del_inside q d (suc q ∷ y) (class_avoids p (suc q) l n s), eqb_yes (suc q) (suc q) refl)
+    rw (e, append_assoc d (suc q ∷ []) y, qt, gt)
+    (del_inside q d (suc q ∷ y) (class_avoids p (suc q) l n s) ∙ ap (λ (t : Bool). del (pick t 0 (suc q)) y) (eqb_yes (suc q) (suc q) refl))
 
 del_item : (x y : List ℕ) → (Ch (none_of "\"'>") ∣ SystemLiteral) x → del 0 (x ++ y) ≡ del 0 y
 unfolding SystemLiteral del
