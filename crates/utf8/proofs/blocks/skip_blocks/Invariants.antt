@@ -1,0 +1,12 @@
+-- `utf8::blocks::skip_blocks` meets its contract. The invariant: only blocks of ASCII were passed.
+-- Assumes nothing.
+use Prim.Native.Nat.{◌-◌}
+use lib.ListN.{length}
+use Rattle.utf8.specs.Passed.{Passed}
+use Rattle.utf8.proofs.blocks.skip_blocks.Given as goal
+
+abbrev pub invariant-loop-i : goal.invariant-loop-i
+invariant-loop-i l = Passed l.s l.at l.i
+
+abbrev pub decreases-loop-i : goal.decreases-loop-i
+decreases-loop-i l = length l.s - l.i
