@@ -17,14 +17,14 @@ const PAST_POINTS: u32 = 0x110000;
 
 // What stands at "&#": a reference and where it ends, or the number of what is wrong with it. Its place is the caller's: a place more to
 // carry through the loop over digits would make references slower by a tenth.
-#[derive(Drop)]
+#[derive(Clone, Copy)]
 pub enum Reference {
     Ends(usize),
     Bad(u8),
 }
 
 // Where digits end, and their value.
-#[derive(Drop)]
+#[derive(Clone, Copy)]
 struct Digits {
     end: usize,
     value: u32,

@@ -18,14 +18,14 @@ use search::at_keyword;
 use source::{admit, admit_at};
 
 // The two ends of a value: its first byte, one past its opening quote, and its closing quote.
-#[derive(Drop)]
+#[derive(Clone, Copy)]
 pub struct Ends {
     pub start: usize,
     pub end: usize,
 }
 
 // What parse_eq_quoted finds: a value, or the number of the refusal and its place.
-#[derive(Drop)]
+#[derive(Clone, Copy)]
 pub enum Quoted {
     Value(Ends),
     Refused(u8, usize),

@@ -9,7 +9,7 @@ ghost use Rattle.checks.specs.Values.{test_of};
 use search::at_keyword;
 
 // Which of the three tests a value has to pass.
-#[derive(Drop)]
+#[derive(Clone, Copy)]
 pub enum Kind {
     VersionNum,
     EncName,

@@ -15,7 +15,7 @@ use fifth_edition::{fifth_char, fifth_start};
 
 // Which name classes a reader uses. Every reader hands it on, so that another edition's classes are one more variant here and one
 // more arm in is_name_start_char and is_name_char.
-#[derive(Drop)]
+#[derive(Clone, Copy)]
 pub enum Names {
     AppendixB,
     FifthEdition,

@@ -5,7 +5,7 @@ use libc::STDIN_FILENO;
 // So many bytes of a file are held: room for a DOCTYPE that is too long, and for much in front of it.
 pub const HELD: usize = 2097152;
 
-#[derive(Drop)]
+#[derive(Clone, Copy)]
 pub enum Filled {
     Failed,
     // How many bytes of the buffer the file fills.

@@ -27,7 +27,7 @@ const REFUSED: u8 = 1;
 const FAILED: u8 = 2;
 
 // What is carried from one argument to the next.
-#[derive(Drop)]
+#[derive(Clone, Copy)]
 struct Progress {
     status: u8,
     ended: bool,

@@ -3,7 +3,7 @@ use crate::bytes;
 use classes::Names;
 
 // What an argument is.
-#[derive(Drop)]
+#[derive(Clone, Copy)]
 pub enum Word {
     File,
     // `-`: standard input.
@@ -20,7 +20,7 @@ pub enum Word {
     Unknown,
 }
 
-#[derive(Drop)]
+#[derive(Clone, Copy)]
 pub struct Options {
     pub verbose: bool,
     pub quiet: bool,
@@ -40,7 +40,7 @@ pub struct Options {
 }
 
 // By which names files are judged, and how much is said of them.
-#[derive(Drop)]
+#[derive(Clone, Copy)]
 pub struct Manner {
     pub names: Names,
     pub quiet: bool,

@@ -12,7 +12,7 @@ use error::{Answer, UNEXPECTED};
 use search::at_keyword;
 
 // What stands between the bars.
-#[derive(Drop)]
+#[derive(Clone, Copy)]
 enum Item {
     Name,
     Nmtoken,

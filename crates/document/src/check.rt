@@ -22,7 +22,7 @@ const LAST: usize = 18446744073709551612;
 // The verdict on a document: its number, 0 where it is accepted; the place of the refusal, or of the root; line and column of that place; where
 // what does not end was opened, or the place itself; the DOCTYPE's text, between `<!DOCTYPE` and its `>`, if there is one in a document
 // that is accepted; and how many of its declarations were not read.
-#[derive(Drop)]
+#[derive(Clone, Copy)]
 pub struct Verdict {
     pub number: u8,
     pub place: usize,

@@ -19,7 +19,7 @@ const FRONT: usize = 65536;
 
 // Accepted: where the root begins, whether there is a DOCTYPE, and the two ends of its text. Refused: the number and its place. Ended: the
 // number, where what does not end was opened, and where the text can be read no further. Rootless: the number and that place.
-#[derive(Drop)]
+#[derive(Clone, Copy)]
 pub enum Finding {
     Accepted(usize, bool, usize, usize),
     Refused(u8, usize),

@@ -14,7 +14,7 @@ use search::at_keyword;
 
 // The place after the prolog, whether it has a DOCTYPE, and the two ends of the DOCTYPE's text (0 and 0 where there is none); or the number
 // of the refusal and its place.
-#[derive(Drop)]
+#[derive(Clone, Copy)]
 pub enum Prolog {
     Read(usize, bool, usize, usize),
     Refused(u8, usize),

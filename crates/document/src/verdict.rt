@@ -11,7 +11,7 @@ use error::Answer;
 
 // The place after the prolog and the DOCTYPE's text in it, as Prolog has them; a refusal and its place; where what does not end was opened;
 // or only the root is missing. What a text ends at, and with which number, is for the caller to say, who knows what stands there.
-#[derive(Drop)]
+#[derive(Clone, Copy)]
 pub enum Judged {
     Accepted(usize, bool, usize, usize),
     Refused(u8, usize),

@@ -8,7 +8,7 @@ ghost use Rattle.encodings.specs.Codings.{of, small_letter, lowered};
 use utf8::byte_at;
 
 // UTF-8 or a part of it; one that has ASCII's bytes for ASCII's characters, and others for others; any other.
-#[derive(Drop)]
+#[derive(Clone, Copy)]
 pub enum Coding {
     Utf8,
     Bytes,

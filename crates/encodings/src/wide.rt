@@ -6,7 +6,7 @@ ghost use Rattle.encodings.specs.Codings.{width};
 use search::at_keyword;
 
 // What the first bytes show. `Narrow`: ASCII's characters are one byte each, or nothing is known.
-#[derive(Drop)]
+#[derive(Clone, Copy)]
 pub enum Wide {
     Narrow,
     Utf16Be,

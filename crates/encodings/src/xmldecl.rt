@@ -14,7 +14,7 @@ use error::Answer;
 use search::{Found, at_keyword, find, find_byte};
 
 // None, or the two ends of its name, [81] EncName.
-#[derive(Drop)]
+#[derive(Clone, Copy)]
 pub enum Named {
     Unnamed,
     Name(usize, usize),

@@ -12,7 +12,7 @@ use search::at_keyword;
 use subset::parse_markup_decl;
 
 // [45], [52], [70], [82], [16], [15], [69]
-#[derive(Drop)]
+#[derive(Clone, Copy)]
 pub enum Kind {
     Element,
     Attlist,

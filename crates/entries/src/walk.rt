@@ -12,7 +12,7 @@ use markup::has_pe_reference;
 
 // An unread declaration: its first byte, one past its last, and whether a parameter-entity reference came before it between
 // declarations, with which the walk goes on at the second number.
-#[derive(Drop)]
+#[derive(Clone, Copy)]
 pub enum Unread {
     Here(usize, usize, bool),
     NoMore,

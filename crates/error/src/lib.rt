@@ -50,14 +50,14 @@ pub const TOO_DEEP: u8 = 20;
 pub const OUT_OF_ORDER: u8 = 21;
 
 // What a reader answers: the place after what it read, or the number of the refusal and the place where it is met.
-#[derive(Drop)]
+#[derive(Clone, Copy)]
 pub enum Answer {
     At(usize),
     No(u8, usize),
 }
 
 // What a check with a place answers: the number of the refusal and the place where it is met, or 0 and the text's end.
-#[derive(Drop)]
+#[derive(Clone, Copy)]
 pub struct Stop {
     pub number: u8,
     pub place: usize,

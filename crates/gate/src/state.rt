@@ -10,7 +10,7 @@ const MOST: u16 = 65_535;
 
 // Something was read, a DOCTYPE was seen, its subset is still open; and how many refusals there were.
 #[repr(C)]
-#[derive(Drop)]
+#[derive(Clone, Copy)]
 pub struct Gate {
     pub started: bool,
     pub seen: bool,
@@ -19,20 +19,20 @@ pub struct Gate {
 }
 
 // What `decl` gives, with the record as it is left.
-#[derive(Drop)]
+#[derive(Clone, Copy)]
 pub struct Declared {
     pub gate: Gate,
     pub number: u8,
 }
 
 // What `doctype` answers: the subset is open, which is no refusal; or a number of the table.
-#[derive(Drop)]
+#[derive(Clone, Copy)]
 pub enum Reply {
     Open,
     Number(u8),
 }
 
-#[derive(Drop)]
+#[derive(Clone, Copy)]
 pub struct Docked {
     pub gate: Gate,
     pub reply: Reply,

@@ -14,7 +14,7 @@ ghost use Rattle.lent.specs.Places.{Stands, next};
 pub use places::Next;
 use places::{byte_at, ends_at, name_at};
 
-#[derive(Drop)]
+#[derive(Clone, Copy)]
 pub struct Cursor<'a> {
     pub text: &'a [u8],
     pub at: usize,

@@ -9,7 +9,7 @@ use classes::Names;
 use names::parse_name;
 
 // What is read next: a byte, or nothing.
-#[derive(Drop)]
+#[derive(Clone, Copy)]
 pub enum Next {
     Byte(u8),
     End,

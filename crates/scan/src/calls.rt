@@ -9,7 +9,7 @@ use source::admit;
 
 // What the scan says: no subset has opened, one has opened and not closed, it closed at the ']' of this place; or 1 or 2, where the
 // text may not be looked at.
-#[derive(Drop)]
+#[derive(Clone, Copy)]
 pub enum Scanned {
     NotOpened,
     NotClosed,

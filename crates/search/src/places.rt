@@ -8,7 +8,7 @@ use crate::bytes::find_byte;
 use crate::keywords::at_keyword;
 
 // The place where a word first stands, or that it stands nowhere.
-#[derive(Drop)]
+#[derive(Clone, Copy)]
 pub enum Found {
     Here(usize),
     Nowhere,

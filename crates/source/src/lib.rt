@@ -15,7 +15,7 @@ use utf8::{is_valid, text_end};
 const LIMIT: usize = 1_048_576;
 
 // The answer of a yes-or-no call: 1, 2 or 0, and the yes or no, which is no with 1 and 2.
-#[derive(Drop)]
+#[derive(Clone, Copy)]
 pub struct Verdict {
     pub number: u8,
     pub yes: bool,

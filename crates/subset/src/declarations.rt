@@ -15,7 +15,7 @@ use models::parse_contentspec;
 use search::at_keyword;
 
 // What finish_decl of the Rust is handed as a function.
-#[derive(Drop)]
+#[derive(Clone, Copy)]
 pub enum Kind {
     Element,
     Attlist,

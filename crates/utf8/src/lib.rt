@@ -21,7 +21,7 @@ const MANY: usize = 4099;
 const CALM: usize = 128;
 
 // A code point and its width in bytes.
-#[derive(Drop)]
+#[derive(Clone, Copy)]
 pub enum Point {
     Is(u32, usize),
     Not,

@@ -4,7 +4,7 @@ use crate::{bytes, calls, reply, text};
 use gate::{Declared, Docked, Gate};
 
 // What a line's call answers, and the record after it, which some answers show.
-#[derive(Drop)]
+#[derive(Clone, Copy)]
 pub struct Stepped {
     pub gate: Gate,
     pub reply: Reply,

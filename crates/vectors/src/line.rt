@@ -6,7 +6,7 @@ use crate::text::Text;
 use crate::{bytes, text};
 
 // Where in the line the next byte stands.
-#[derive(Drop)]
+#[derive(Clone, Copy)]
 pub enum Column {
     // at the start of the line
     Start,
@@ -25,7 +25,7 @@ pub enum Column {
 }
 
 // What a whole line is.
-#[derive(Drop)]
+#[derive(Clone, Copy)]
 pub enum Kind {
     Nothing,
     Malformed,
@@ -33,7 +33,7 @@ pub enum Kind {
 }
 
 // The columns' lengths in their buffers, and the text with its place in the third column.
-#[derive(Drop)]
+#[derive(Clone, Copy)]
 pub struct Line {
     pub column: Column,
     pub call: usize,

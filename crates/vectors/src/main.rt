@@ -24,7 +24,7 @@ use line::Line;
 use tally::Tally;
 
 // What is carried from one part of the input to the next.
-#[derive(Drop)]
+#[derive(Clone, Copy)]
 struct Progress {
     line: Line,
     tally: Tally,

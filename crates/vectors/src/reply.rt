@@ -2,7 +2,7 @@
 // variant here and one more arm of `spell`.
 use crate::{bytes, documents};
 
-#[derive(Drop)]
+#[derive(Clone, Copy)]
 pub enum Reply {
     // the call is not known
     Unknown,

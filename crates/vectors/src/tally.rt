@@ -7,7 +7,7 @@ use gate::Gate;
 
 // How many lines there were, how many of them were vectors, and of these how many differ and how many
 // have a call that is not known; and the gate's record, which goes from line to line.
-#[derive(Drop)]
+#[derive(Clone, Copy)]
 pub struct Tally {
     pub lines: u64,
     pub vectors: u64,
@@ -17,7 +17,7 @@ pub struct Tally {
 }
 
 // What came of a vector.
-#[derive(Drop)]
+#[derive(Clone, Copy)]
 enum Outcome {
     Agrees,
     Differs,

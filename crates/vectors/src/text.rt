@@ -5,7 +5,7 @@ ghost use Rattle.std.specs.Prelude.{◌<◌, ◌≤◌};
 use crate::{bytes, repeat};
 
 // What the next byte of the column goes on with.
-#[derive(Drop)]
+#[derive(Clone, Copy)]
 pub enum Place {
     // a pair of digits
     Pair,
@@ -21,7 +21,7 @@ pub enum Place {
 
 // The text as far as it is decoded: how many bytes there are, where the last piece of them begins,
 // and where in the column we are.
-#[derive(Drop)]
+#[derive(Clone, Copy)]
 pub struct Text {
     pub length: usize,
     pub piece: usize,

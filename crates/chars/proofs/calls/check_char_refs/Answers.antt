@@ -1,0 +1,9 @@
+-- What is left to show of `check_char_refs`. Assumes nothing.
+use Rattle.chars.proofs.Agreed.{agreed}
+use Rattle.chars.proofs.calls.check_char_refs.Goals as goal
+
+pub returns-then-n-ne-ACCEPTED : goal.returns-then-n-ne-ACCEPTED
+returns-then-n-ne-ACCEPTED c = search agreed
+
+pub returns : goal.returns
+returns c = search agreed

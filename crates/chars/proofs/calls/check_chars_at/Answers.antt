@@ -1,0 +1,9 @@
+-- What is left to show of `check_chars_at`. Assumes nothing.
+use Rattle.chars.proofs.Agreed.{located}
+use Rattle.chars.proofs.calls.check_chars_at.Goals as goal
+
+pub returns-in_default : goal.returns-in_default
+returns-in_default c = search located
+
+pub returns : goal.returns
+returns c = search located

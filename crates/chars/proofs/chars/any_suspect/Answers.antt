@@ -1,0 +1,9 @@
+-- What is left to show of `any_suspect`. Assumes nothing.
+use Rattle.chars.proofs.Checks.{CalmPass}
+use Rattle.chars.proofs.chars.any_suspect.Goals as goal
+
+pub loop-i-preserved : goal.loop-i-preserved
+loop-i-preserved c = search CalmPass
+
+pub returns : goal.returns
+returns c = search CalmPass

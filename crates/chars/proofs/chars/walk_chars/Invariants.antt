@@ -1,0 +1,15 @@
+-- `chars::chars::walk_chars` meets its contract. The invariant: the answer from i on is the whole answer.
+-- Assumes nothing.
+use mathlib.Core.Path.{◌≡◌}
+use Prim.Native.Nat.{◌-◌}
+use lib.ListN.{length}
+use Rattle.spec.specs.Reading.Readers.{throughout}
+use Rattle.spec.specs.Reading.Wellformed.{legal_byte, check_chars}
+use Rattle.error.specs.Read.{read}
+use Rattle.chars.proofs.chars.walk_chars.Given as goal
+
+abbrev pub invariant-loop-i : goal.invariant-loop-i
+invariant-loop-i l = read (throughout legal_byte) l.text l.i ≡ read check_chars l.text 0
+
+abbrev pub decreases-loop-i : goal.decreases-loop-i
+decreases-loop-i l = length l.text - l.i
