@@ -1,0 +1,9 @@
+-- What is left to show of `check_attr_value`. Assumes nothing.
+use Rattle.wellformed.proofs.Agreed.{agreed}
+use Rattle.wellformed.proofs.calls.check_attr_value.Goals as goal
+
+pub returns-then-n-ne-ACCEPTED : goal.returns-then-n-ne-ACCEPTED
+returns-then-n-ne-ACCEPTED c = search agreed
+
+pub returns : goal.returns
+returns c = search agreed

@@ -1,0 +1,16 @@
+-- What is left to show of `attr_step`. Assumes nothing.
+use Rattle.spec.specs.Reading.Wellformed.{attr_step}
+use Rattle.chars.proofs.CharRefs.{char_refs}
+use Rattle.wellformed.proofs.text.attr_step.Goals as goal
+
+pub returns-then-at_keyword : goal.returns-then-at_keyword
+unfolding attr_step
+returns-then-at_keyword c = search char_refs
+
+pub returns-then-at_keyword-2 : goal.returns-then-at_keyword-2
+unfolding attr_step
+returns-then-at_keyword-2 c = search char_refs
+
+pub returns : goal.returns
+unfolding attr_step
+returns c = search char_refs
