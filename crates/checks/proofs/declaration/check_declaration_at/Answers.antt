@@ -1,0 +1,9 @@
+-- What is left to show of `check_declaration_at`. Assumes nothing.
+use Rattle.checks.proofs.Declaring.{located}
+use Rattle.checks.proofs.declaration.check_declaration_at.Goals as goal
+
+pub returns-in_default : goal.returns-in_default
+returns-in_default c = search located
+
+pub returns : goal.returns
+returns c = search located

@@ -1,0 +1,12 @@
+-- What is left to show of `parse_entity`. Assumes nothing.
+use Rattle.spec.specs.Reading.Readers.{on}
+use Rattle.cursor.proofs.Reading.{reading}
+use Rattle.decls.proofs.entities.parse_entity.Goals as goal
+
+pub returns-in-At : goal.returns-in-At
+unfolding on
+returns-in-At c = search reading
+
+pub returns : goal.returns
+unfolding on
+returns c = search reading

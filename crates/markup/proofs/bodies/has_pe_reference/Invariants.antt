@@ -1,0 +1,13 @@
+-- `markup::bodies::has_pe_reference` meets its contract. The invariant: the bytes before i do not decide. Assumes nothing.
+use mathlib.Core.Path.{◌≡◌}
+use Prim.Native.Nat.{◌-◌}
+use lib.ListN.{length, drop}
+use Rattle.spec.specs.Reading.Dtd.{has_pe_reference}
+use Rattle.classes.specs.Classes.{dialect}
+use Rattle.markup.proofs.bodies.has_pe_reference.Given as goal
+
+abbrev pub invariant-loop-i : goal.invariant-loop-i
+invariant-loop-i l = has_pe_reference (dialect l.names) (drop l.i l.t) ≡ has_pe_reference (dialect l.names) l.t
+
+abbrev pub decreases-loop-i : goal.decreases-loop-i
+decreases-loop-i l = length l.t - l.i
