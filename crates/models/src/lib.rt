@@ -46,7 +46,7 @@ fn occurrence_end(s: &[u8], at: usize) -> Answer
 }
 
 // [48] cp, in which so many groups may yet be opened.
-#[cycle(group_end_parse_cp_parse_group)]
+#[cycle(groups)]
 fn parse_cp(s: &[u8], at: usize, height: usize, names: Names) -> Answer
     ensures { said result ≡ read (cp_of (dialect names) (parse_group (dialect names) too_deep height)) s.now at }
 {
@@ -66,7 +66,7 @@ fn parse_cp(s: &[u8], at: usize, height: usize, names: Names) -> Answer
 
 // [49] choice and [50] seq after the first particle and white space: the first connector fixes which of the two it is. The byte here
 // may also be no connector; then the loop is not entered.
-#[cycle(group_end_parse_cp_parse_group)]
+#[cycle(groups)]
 fn group_end(s: &[u8], at: usize, height: usize, names: Names) -> Answer
     ensures { said result ≡ read (group_end (cp_of (dialect names) (parse_group (dialect names) too_deep height))) s.now at }
 {
@@ -91,7 +91,7 @@ fn group_end(s: &[u8], at: usize, height: usize, names: Names) -> Answer
 }
 
 // [49] choice and [50] seq, where so many groups may yet be opened, itself counted.
-#[cycle(group_end_parse_cp_parse_group)]
+#[cycle(groups)]
 fn parse_group(s: &[u8], at: usize, height: usize, names: Names) -> Answer
     ensures { said result ≡ read (parse_group (dialect names) too_deep height) s.now at }
 {

@@ -2,9 +2,9 @@
 use Rattle.decls.proofs.Keywords.{tabled, keyword_bytes, keyword_lengths}
 use Rattle.decls.proofs.attlists.parse_tokenized.Goals as goal
 
-pub overflow_add-to : goal.overflow_add-to
+pub loop-k-init : goal.loop-k-init
 unfolding keyword_bytes keyword_lengths
-overflow_add-to c = search tabled
+loop-k-init c = search tabled
 
 pub slice_bounds-eat_str-end : goal.slice_bounds-eat_str-end
 unfolding keyword_bytes keyword_lengths
@@ -13,6 +13,10 @@ slice_bounds-eat_str-end c = search tabled
 pub returns-in-At : goal.returns-in-At
 unfolding keyword_bytes keyword_lengths
 returns-in-At c = search tabled
+
+pub loop-k-preserved : goal.loop-k-preserved
+unfolding keyword_bytes keyword_lengths
+loop-k-preserved c = search tabled
 
 pub returns : goal.returns
 unfolding keyword_bytes keyword_lengths
