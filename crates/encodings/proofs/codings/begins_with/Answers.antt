@@ -1,0 +1,15 @@
+-- What is left to show of `begins_with`. Assumes nothing.
+use Rattle.encodings.proofs.Naming.{front_more, fronts}
+use Rattle.encodings.proofs.codings.begins_with.Goals as goal
+
+pub returns-then-name-i : goal.returns-then-name-i
+returns-then-name-i c = search fronts
+
+pub returns-then-small_at-word : goal.returns-then-small_at-word
+returns-then-small_at-word c = search fronts
+
+pub loop-i-preserved : goal.loop-i-preserved
+loop-i-preserved c = front_more _ _ _ c.loop-i.invariant c.loop-test.true c.if1.false _ c.Small-at.ensures c.if2.false
+
+pub returns : goal.returns
+returns c = search fronts
