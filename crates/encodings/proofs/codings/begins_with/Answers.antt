@@ -9,7 +9,7 @@ pub returns-then-small_at-word : goal.returns-then-small_at-word
 returns-then-small_at-word c = search fronts
 
 pub loop-i-preserved : goal.loop-i-preserved
-loop-i-preserved c = front_more _ _ _ c.loop-i.invariant c.loop-i-test.true c.if1.false _ c.Small-at.ensures c.if2.false
+loop-i-preserved c = front_more _ _ _ c.loop-i.invariant c.loop-i-test.true c.if-name-i.false _ c.small_at.ensures c.if-small_at-word.false
 
 pub returns : goal.returns
 returns c = search fronts

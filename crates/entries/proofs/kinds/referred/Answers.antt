@@ -1,0 +1,32 @@
+-- What is left to show of `referred`. Assumes nothing.
+use Rattle.entries.specs.Kinds.{kind_of, referred}
+use Rattle.entries.proofs.Naming.{sizes}
+use Rattle.entries.proofs.kinds.referred.Goals as goal
+
+pub returns-in-Element : goal.returns-in-Element
+unfolding kind_of referred
+returns-in-Element c = search sizes
+
+pub returns-in-Attlist : goal.returns-in-Attlist
+unfolding kind_of referred
+returns-in-Attlist c = search sizes
+
+pub returns-in-Entity : goal.returns-in-Entity
+unfolding kind_of referred
+returns-in-Entity c = search sizes
+
+pub returns-in-Notation : goal.returns-in-Notation
+unfolding kind_of referred
+returns-in-Notation c = search sizes
+
+pub returns-in-Instruction : goal.returns-in-Instruction
+unfolding kind_of referred
+returns-in-Instruction c = search sizes
+
+pub returns-in-Comment : goal.returns-in-Comment
+unfolding kind_of referred
+returns-in-Comment c = search sizes
+
+pub returns-in-Reference : goal.returns-in-Reference
+unfolding kind_of referred
+returns-in-Reference c = search sizes
