@@ -1,10 +1,1 @@
 pub mod Reading
-pub mod Facts
-pub mod Steps
-pub mod Promises
-pub mod Walks
-pub mod Cursors
-pub mod Apart
-pub mod Thin
-pub mod Moved
-pub mod Leading
