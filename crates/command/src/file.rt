@@ -1,6 +1,8 @@
 // Reading a file, as much of it as is held.
-use crate::{bytes, escape};
-use libc::STDIN_FILENO;
+use crate::console::fail;
+use crate::{bytes, escape, links};
+use std::io::{Error, Input, Read};
+use std::{fs, str};
 
 // So many bytes of a file are held: room for a DOCTYPE that is too long, and for much in front of it.
 pub const HELD: usize = 2097152;
@@ -12,34 +14,48 @@ pub enum Filled {
     Bytes(usize),
 }
 
-// Reads the file, `-` being standard input, to its end or until the buffer is full. A file that cannot be read is named on standard
-// error with the reason. The name comes from os::arg, which sets errno to 0, so after the reads errno says whether one failed: a
-// directory opens, and only the read fails.
-pub fn fill(name: &[u8], buffer: &mut [u8], out: &mut [u8]) -> Filled {
+// Reads the file that argument `i` names, `-` being standard input, to its end or until the buffer is full. A file that cannot be read is
+// named on standard error with the reason: a directory opens, and only the read fails.
+pub fn fill(rt: &HostRuntime, name: &[u8], i: usize, buffer: &mut [u8], out: &mut [u8]) -> Filled {
     if bytes::same(name, b"-") {
-        return fill_from(STDIN_FILENO, b"standard input", buffer, out);
+        return told(
+            rt,
+            b"standard input",
+            read_full(&mut rt.reader(), buffer),
+            out,
+        );
     }
-    let fd = os::open_read(name);
-    if fd < 0 {
-        return failed(name, out);
-    }
-    let filled = fill_from(fd, name, buffer, out);
-    libc::close(fd);
-    filled
+    told(rt, name, fill_from(rt, name, i, buffer), out)
 }
 
-fn fill_from(fd: i32, name: &[u8], buffer: &mut [u8], out: &mut [u8]) -> Filled {
-    let n = io::read_full(fd, buffer);
-    if os::errno() != 0 {
-        return failed(name, out);
+fn fill_from(rt: &HostRuntime, name: &[u8], i: usize, buffer: &mut [u8]) -> Result<usize, Error> {
+    match str::from_utf8(name) {
+        Ok(path) => read_full(&mut fs::open(rt, path)?, buffer),
+        Err(_) => read_full(&mut links::open(rt, i)?, buffer),
     }
-    Filled::Bytes(n)
 }
 
-fn failed(name: &[u8], out: &mut [u8]) -> Filled {
-    let n = escape::put_name(out, 0, name);
-    os::fail(bytes::front(out, n));
-    Filled::Failed
+fn read_full<R: Read>(from: &mut R, buffer: &mut [u8]) -> Result<usize, Error> {
+    let mut n = 0;
+    while n < buffer.len() {
+        let got = from.read(&mut buffer[n..])?;
+        if got == 0 {
+            break;
+        }
+        n += got;
+    }
+    Ok(n)
+}
+
+fn told(rt: &HostRuntime, name: &[u8], n: Result<usize, Error>, out: &mut [u8]) -> Filled {
+    match n {
+        Ok(n) => Filled::Bytes(n),
+        Err(error) => {
+            let k = escape::put_name(out, 0, name);
+            fail(rt, bytes::front(out, k), error);
+            Filled::Failed
+        }
+    }
 }
 
 // The text in the first `n` bytes of the buffer, at most as many as are held.

@@ -5,8 +5,10 @@
 ghost use Rattle.std.specs.Prelude.{◌≡◌, length};
 
 mod bytes;
+mod console;
 mod escape;
 mod file;
+mod links;
 mod options;
 mod report;
 mod show;
@@ -15,6 +17,8 @@ mod words;
 
 use file::Filled;
 use options::{Manner, Options, Word};
+use std::env::{Env, FillError};
+use std::io::Error;
 
 // Where the exit status goes, as a digit: a program cannot set its own, so the script that starts it reads it there.
 const STATUS_FILENO: i32 = 3;
@@ -25,6 +29,9 @@ const GOOD: u8 = 0;
 const REFUSED: u8 = 1;
 
 const FAILED: u8 = 2;
+
+// The system's number for a name that is too long.
+const ENAMETOOLONG: i32 = 36;
 
 // What is carried from one argument to the next.
 #[derive(Clone, Copy)]
@@ -41,9 +48,16 @@ fn room() -> [u8; 2097153]
     [0; 2097153]
 }
 
-// Checks one file, and answers the status that it asks for.
-fn check_file(name: &[u8], manner: Manner, held: &mut [u8], out: &mut [u8]) -> u8 {
-    match file::fill(name, held, out) {
+// Checks the file that argument `i` names, and answers the status that it asks for.
+fn check_file(
+    rt: &HostRuntime,
+    name: &[u8],
+    i: usize,
+    manner: Manner,
+    held: &mut [u8],
+    out: &mut [u8],
+) -> u8 {
+    match file::fill(rt, name, i, held, out) {
         Filled::Failed => FAILED,
         Filled::Bytes(n) => {
             let text = file::text(held, n);
@@ -52,10 +66,10 @@ fn check_file(name: &[u8], manner: Manner, held: &mut [u8], out: &mut [u8]) -> u
             if manner.quiet {
                 return status_of(verdict);
             }
-            if report::say(out, name, text, verdict, manner) {
-                return status_of(verdict);
+            match report::say(rt, out, name, text, verdict, manner) {
+                Ok(()) => status_of(verdict),
+                Err(error) => unwritten(rt, error),
             }
-            unwritten()
         }
     }
 }
@@ -68,13 +82,14 @@ fn status_of(verdict: document::Verdict) -> u8 {
 }
 
 // A report that did not reach its reader is a failure like a file that was not read.
-fn unwritten() -> u8 {
-    os::fail(b"standard output");
+fn unwritten(rt: &HostRuntime, error: Error) -> u8 {
+    console::fail(rt, b"standard output", error);
     FAILED
 }
 
 // Checks the file that an argument names, where it is no option.
 fn argument(
+    rt: &HostRuntime,
     before: Progress,
     i: usize,
     manner: Manner,
@@ -82,28 +97,30 @@ fn argument(
     held: &mut [u8],
     out: &mut [u8],
 ) -> Progress {
-    let n = os::arg(i, word);
-    if os::errno() != 0 {
-        return with(before, unnamed());
+    match rt.arg(i, word) {
+        Ok(n) => named(rt, before, bytes::front(word, n), i, manner, held, out),
+        Err(FillError::TooLong) => with(before, unnamed(rt)),
+        Err(FillError::NotPresent) => with(before, unnamed(rt)),
     }
-    named(before, bytes::front(word, n), manner, held, out)
 }
 
 // An argument that cannot be had is a failure like a file that was not read.
-fn unnamed() -> u8 {
-    os::fail(b"a file name");
+fn unnamed(rt: &HostRuntime) -> u8 {
+    console::fail(rt, b"a file name", Error::from_raw_os_error(ENAMETOOLONG));
     FAILED
 }
 
 fn named(
+    rt: &HostRuntime,
     before: Progress,
     name: &[u8],
+    i: usize,
     manner: Manner,
     held: &mut [u8],
     out: &mut [u8],
 ) -> Progress {
     match options::kind(name, before.ended) {
-        Word::File | Word::Input => with(before, check_file(name, manner, held, out)),
+        Word::File | Word::Input => with(before, check_file(rt, name, i, manner, held, out)),
         Word::End => Progress {
             status: before.status,
             ended: true,
@@ -130,54 +147,62 @@ fn worse(a: u8, b: u8) -> u8 {
     if a < b { b } else { a }
 }
 
-fn check_all(manner: Manner, word: &mut [u8], held: &mut [u8], out: &mut [u8]) -> u8 {
-    let count = os::arg_count();
+fn check_all(
+    rt: &HostRuntime,
+    manner: Manner,
+    word: &mut [u8],
+    held: &mut [u8],
+    out: &mut [u8],
+) -> u8 {
+    let count = options::count(rt, word);
     let mut progress = Progress {
         status: GOOD,
         ended: false,
     };
     let mut i = 1;
     while i < count {
-        progress = argument(progress, i, manner, word, held, out);
+        progress = argument(rt, progress, i, manner, word, held, out);
         i += 1;
     }
     progress.status
 }
 
 // Does what the options ask for, and answers the status.
-fn run(options: Options, word: &mut [u8], held: &mut [u8], out: &mut [u8]) -> u8 {
+fn run(rt: &HostRuntime, options: Options, word: &mut [u8], held: &mut [u8], out: &mut [u8]) -> u8 {
     if options.unknown != 0 {
-        return unknown(options.unknown, word, out);
+        return unknown(rt, options.unknown, word, out);
     }
     if options.help {
-        return written(usage::help());
+        return written(rt, usage::help(rt));
     }
     if options.version {
-        return written(usage::version());
+        return written(rt, usage::version(rt));
     }
     if options.numbers {
-        return written(words::table());
+        return written(rt, words::table(rt));
     }
     if options.file == 0 {
-        usage::wrong();
+        usage::wrong(rt);
         return FAILED;
     }
     if options.twice {
-        usage::twice();
+        usage::twice(rt);
         return FAILED;
     }
-    check_all(options::manner_of(options), word, held, out)
+    check_all(rt, options::manner_of(options), word, held, out)
 }
 
 // Says which option is not known: argument `i`.
-fn unknown(i: usize, word: &mut [u8], out: &mut [u8]) -> u8 {
-    let n = os::arg(i, word);
-    usage::unknown(out, bytes::front(word, n));
+fn unknown(rt: &HostRuntime, i: usize, word: &mut [u8], out: &mut [u8]) -> u8 {
+    usage::unknown(rt, out, options::argument(rt, i, word));
     FAILED
 }
 
-fn written(is: bool) -> u8 {
-    if is { GOOD } else { unwritten() }
+fn written(rt: &HostRuntime, is: Result<(), Error>) -> u8 {
+    match is {
+        Ok(()) => GOOD,
+        Err(error) => unwritten(rt, error),
+    }
 }
 
 fn tell(status: u8) {
@@ -188,10 +213,10 @@ fn tell(status: u8) {
     };
 }
 
-fn main() {
+fn main(rt: HostRuntime) {
     let mut word = io::buffer();
     let mut out = io::large_buffer();
     let mut held = room();
-    let options = options::read(&mut word);
-    tell(run(options, &mut word, &mut held, &mut out));
+    let options = options::read(&rt, &mut word);
+    tell(run(&rt, options, &mut word, &mut held, &mut out));
 }

@@ -1,6 +1,7 @@
 // The arguments that are options. They may stand before, between and after the files, and count for all of them.
 use crate::bytes;
 use classes::Names;
+use std::env::{Env, FillError};
 
 // What an argument is.
 #[derive(Clone, Copy)]
@@ -104,9 +105,27 @@ fn short(sign: u8) -> Word {
     }
 }
 
+// How many arguments there are, the program's own name the first of them. Each is read into `word`, and one that is too long counts too.
+pub fn count(rt: &HostRuntime, word: &mut [u8]) -> usize {
+    for i in 0..usize::MAX {
+        if let Err(FillError::NotPresent) = rt.arg(i, word) {
+            return i;
+        }
+    }
+    usize::MAX
+}
+
+// Argument `i`, read into `word`: empty where it is too long.
+pub fn argument<'a>(rt: &HostRuntime, i: usize, word: &'a mut [u8]) -> &'a [u8] {
+    match rt.arg(i, word) {
+        Ok(n) => bytes::front(word, n),
+        Err(_) => bytes::front(word, 0),
+    }
+}
+
 // Reads all arguments, each into `word`.
-pub fn read(word: &mut [u8]) -> Options {
-    let count = os::arg_count();
+pub fn read(rt: &HostRuntime, word: &mut [u8]) -> Options {
+    let count = count(rt, word);
     let mut options = Options {
         verbose: false,
         quiet: false,
@@ -122,16 +141,15 @@ pub fn read(word: &mut [u8]) -> Options {
     };
     let mut i = 1;
     while i < count {
-        options = next(options, i, word);
+        options = next(options, i, argument(rt, i, word));
         i += 1;
     }
     options
 }
 
-fn next(before: Options, i: usize, word: &mut [u8]) -> Options {
-    let n = os::arg(i, word);
+fn next(before: Options, i: usize, word: &[u8]) -> Options {
     let mut options = before;
-    match kind(bytes::front(word, n), before.ended) {
+    match kind(word, before.ended) {
         Word::File => {
             options.file = i;
         }

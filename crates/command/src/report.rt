@@ -1,5 +1,6 @@
 // What is said of a file. A report is put together first, so that it takes one write; the declarations that were not read, of which there
 // may be many, take one each.
+use crate::console::write_out;
 use crate::options::Manner;
 use crate::{bytes, escape, show, words};
 use classes::Names;
@@ -7,30 +8,35 @@ use document::Verdict;
 use encodings::Wide;
 use entries::Unread;
 use error::{ACCEPTED, NOT_UTF8, TOO_LONG, UNTERMINATED};
-use libc::STDOUT_FILENO;
+use std::io::Error;
 
-// Says the verdict on the file of this name, and answers whether it could be written. What is shown begins after the byte order mark, which
+// Says the verdict on the file of this name, or fails where it cannot be written. What is shown begins after the byte order mark, which
 // no line or column counts.
-pub fn say(out: &mut [u8], name: &[u8], held: &[u8], given: Verdict, manner: Manner) -> bool {
+pub fn say(
+    rt: &HostRuntime,
+    out: &mut [u8],
+    name: &[u8],
+    held: &[u8],
+    given: Verdict,
+    manner: Manner,
+) -> Result<(), Error> {
     let mark = document::mark_length(held);
     let text = bytes::rest(held, mark);
     let verdict = unmarked(given, mark);
     if verdict.number != ACCEPTED {
         let n = refused(out, name, text, verdict);
-        return io::write_all(STDOUT_FILENO, bytes::front(out, n));
+        return write_out(rt, bytes::front(out, n));
     }
     let n = accepted(out, name, verdict);
-    if !io::write_all(STDOUT_FILENO, bytes::front(out, n)) {
-        return false;
-    }
+    write_out(rt, bytes::front(out, n))?;
     if manner.verbose & (0 < verdict.unread) {
         let start = verdict.doctype_start;
         let end = verdict.doctype_end;
         let part = bytes::between(text, start, end);
         let names = manner.names;
-        return unread(out, name, text, start, part, names);
+        return unread(rt, out, name, text, start, part, names);
     }
-    true
+    Ok(())
 }
 
 // The verdict with its places counted from behind the mark.
@@ -74,37 +80,42 @@ fn declarations(out: &mut [u8], to: usize, count: usize) -> usize {
 // Where the declarations of a DOCTYPE stand that were not read. Its text is `part`, from `start` on. A step without end is ruled out by the
 // count of its bytes, which shows the prover that the loop ends.
 fn unread(
+    rt: &HostRuntime,
     out: &mut [u8],
     name: &[u8],
     text: &[u8],
     start: usize,
     part: &[u8],
     names: Names,
-) -> bool {
+) -> Result<(), Error> {
     let mut at = entries::first_place(part);
     let mut pe = false;
     while at < part.len() {
         let next = entries::next_unread(part, at, pe, names);
         let Unread::Here(first, past, before) = next else {
-            return true;
+            return Ok(());
         };
-        if !not_read(out, name, text, bytes::forth(text, start, first)) {
-            return false;
-        }
+        not_read(rt, out, name, text, bytes::forth(text, start, first))?;
         if past <= at {
-            return true;
+            return Ok(());
         }
         at = past;
         pe = before;
     }
-    true
+    Ok(())
 }
 
-fn not_read(out: &mut [u8], name: &[u8], text: &[u8], at: usize) -> bool {
+fn not_read(
+    rt: &HostRuntime,
+    out: &mut [u8],
+    name: &[u8],
+    text: &[u8],
+    at: usize,
+) -> Result<(), Error> {
     let n = placed(out, 0, name, text, at);
     let n = bytes::append(out, n, b": not read\n");
     let n = show::put_line(out, n, text, at, lines::line_of(text, at));
-    io::write_all(STDOUT_FILENO, bytes::front(out, n))
+    write_out(rt, bytes::front(out, n))
 }
 
 fn refused(out: &mut [u8], name: &[u8], text: &[u8], verdict: Verdict) -> usize {

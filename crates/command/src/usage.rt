@@ -1,42 +1,41 @@
 // How the command is called.
+use crate::console::{complain, write_out};
 use crate::{bytes, escape};
-use libc::{STDERR_FILENO, STDOUT_FILENO};
+use std::io::Error;
 
 // On standard error, for a call that cannot be understood.
-pub fn wrong() {
-    io::write_all(
-        STDERR_FILENO,
+pub fn wrong(rt: &HostRuntime) {
+    complain(
+        rt,
         b"usage: moxkeldi [-q | -v] [--fifth-edition] FILE...    (- is standard input; --help says more)\n",
     );
 }
 
 // The same, for an option that is not known.
-pub fn unknown(out: &mut [u8], word: &[u8]) {
+pub fn unknown(rt: &HostRuntime, out: &mut [u8], word: &[u8]) {
     let n = bytes::append(out, 0, b"moxkeldi: unknown option ");
     let n = escape::put_name(out, n, word);
     let n = bytes::put(out, n, b'\n');
-    io::write_all(STDERR_FILENO, bytes::front(out, n));
-    wrong();
+    complain(rt, bytes::front(out, n));
+    wrong(rt);
 }
 
 // The same, for standard input that is asked for twice.
-pub fn twice() {
-    io::write_all(
-        STDERR_FILENO,
+pub fn twice(rt: &HostRuntime) {
+    complain(
+        rt,
         b"moxkeldi: - is given twice, and standard input can be read only once\n",
     );
-    wrong();
+    wrong(rt);
 }
 
-// Answers whether it could be written.
-pub fn version() -> bool {
-    io::write_all(STDOUT_FILENO, b"moxkeldi 0.3.0\n")
+pub fn version(rt: &HostRuntime) -> Result<(), Error> {
+    write_out(rt, b"moxkeldi 0.3.0\n")
 }
 
-// Answers whether it could be written.
-pub fn help() -> bool {
-    io::write_all(
-        STDOUT_FILENO,
+pub fn help(rt: &HostRuntime) -> Result<(), Error> {
+    write_out(
+        rt,
         b"usage: moxkeldi [-q | -v] [--fifth-edition] FILE...
 
 Checks the prolog of each XML file: the XML declaration, comments,

@@ -1,6 +1,7 @@
 // The numbers in words, as the bindings have them.
 use crate::bytes;
-use libc::STDOUT_FILENO;
+use crate::console::write_out;
+use std::io::Error;
 
 // A row for each number, in their order: the number in two places, two spaces, and its words. It is one text, and no arm of a `match` for
 // each number, since a function is proved in a time that grows with the square of its arms.
@@ -31,9 +32,8 @@ const TABLE: [u8; 1026] =
 // So many bytes of a row stand before its words.
 const COLUMN: usize = 4;
 
-// Answers whether the table could be written.
-pub fn table() -> bool {
-    io::write_all(STDOUT_FILENO, &TABLE)
+pub fn table(rt: &HostRuntime) -> Result<(), Error> {
+    write_out(rt, &TABLE)
 }
 
 // Puts the words for a number at `at`, and answers the place after them.

@@ -19,9 +19,11 @@ mod tally;
 mod text;
 
 use bytes::Word;
-use libc::STDIN_FILENO;
 use line::Line;
 use tally::Tally;
+
+// Standard input.
+const STDIN_FILENO: i32 = 0;
 
 // What is carried from one part of the input to the next.
 #[derive(Clone, Copy)]
@@ -69,7 +71,7 @@ fn follow(
     }
 }
 
-// Reads once and goes on through what came. Nothing comes at the end of the input, and where a read
+// Reads as much as there is room for and goes on through what came. Nothing comes at the end of the input, and where a read
 // fails.
 fn read_some(
     from: Progress,
@@ -78,8 +80,7 @@ fn read_some(
     answer: &mut Word,
     text: &mut [u8],
 ) -> Progress {
-    let got = libc::read(STDIN_FILENO, input);
-    let n = io::count(got, input);
+    let n = io::read_full(STDIN_FILENO, input);
     follow(from, &input[..n], call, answer, text)
 }
 

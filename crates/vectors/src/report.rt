@@ -1,6 +1,8 @@
 // What the program writes.
 use crate::tally::Tally;
-use libc::STDOUT_FILENO;
+
+// Standard output.
+const STDOUT_FILENO: i32 = 1;
 
 // A line whose answer is not the one wanted.
 pub fn differs(line: u64, word: &[u8], wanted: &[u8], got: &[u8]) {

@@ -1,0 +1,10 @@
+-- `vectors::bytes::append` is safe and ends. The invariant: the buffer keeps its length. The measure is what is left of the part.
+-- Assumes nothing.
+use Rattle.std.proofs.Common.{◌≡◌, ◌-◌, length}
+use Rattle.vectors.proofs.bytes.append.Given as goal
+
+abbrev pub invariant-loop-i : goal.invariant-loop-i
+invariant-loop-i l = length l.out ≡ length l.initial.out
+
+abbrev pub decreases-loop-i : goal.decreases-loop-i
+decreases-loop-i l = length l.part - l.i
