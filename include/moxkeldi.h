@@ -4,7 +4,7 @@
  * To check a document, call moxkeldi_check_document, or moxkeldi_check_document_fifth where its names need the letters of XML 1.0's fifth
  * edition. The other calls are for those who have cut a document into its parts already.
  *
- * Link with libmoxkeldi.a (x86-64 Linux), which `rt staticlib moxkeldi` writes to target/staticlib/. It needs no other library.
+ * Link with libmoxkeldi.a (x86-64 Linux), which `rt lib` in crates/moxkeldi writes to its folder out/. It needs no other library.
  *
  * Every function takes a text as its bytes and answers with a number: 0 where the text is accepted, else the reason why not
  * (enum moxkeldi_number). Every function ends and stays within its arguments on all bytes; nothing has to be checked beforehand.

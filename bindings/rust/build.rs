@@ -1,6 +1,7 @@
-//! Finds libmoxkeldi.a: the file that MOXKELDI_LIB names, or else what `rt staticlib moxkeldi` builds in the repository's root.
+//! Finds libmoxkeldi.a: the file that MOXKELDI_LIB names, or else what `rt lib` builds in crates/moxkeldi.
 
 use std::env;
+use std::fs;
 use std::path::{Path, PathBuf};
 use std::process::Command;
 
@@ -37,18 +38,38 @@ fn named(archive: PathBuf) -> PathBuf {
 fn built_here() -> PathBuf {
     let manifest = env::var_os("CARGO_MANIFEST_DIR").expect("cargo sets CARGO_MANIFEST_DIR");
     let root = Path::new(&manifest).join("../..");
-    for watched in ["crates", "crates.txt"] {
-        println!("cargo:rerun-if-changed={}", root.join(watched).display());
+    println!(
+        "cargo:rerun-if-changed={}",
+        root.join("crates.txt").display()
+    );
+    for folder in sources(&root.join("crates")) {
+        println!("cargo:rerun-if-changed={}", folder.display());
     }
     match Command::new("rt")
-        .args(["staticlib", "moxkeldi"])
-        .current_dir(&root)
+        .arg("lib")
+        .current_dir(root.join("crates/moxkeldi"))
         .status()
     {
-        Ok(status) if status.success() => root.join("target/staticlib/libmoxkeldi.a"),
-        Ok(status) => panic!("`rt staticlib moxkeldi` ended with {status}"),
+        Ok(status) if status.success() => root.join("crates/moxkeldi/out/libmoxkeldi.a"),
+        Ok(status) => panic!("`rt lib` in crates/moxkeldi ended with {status}"),
         Err(error) => panic!(
-            "cannot run `rt staticlib moxkeldi`: {error}; set MOXKELDI_LIB to a libmoxkeldi.a"
+            "cannot run `rt lib`: {error}; set MOXKELDI_LIB to a libmoxkeldi.a"
         ),
     }
+}
+
+/// The folders of the crates that hold what rt reads. What it writes lies beside them.
+fn sources(crates: &Path) -> Vec<PathBuf> {
+    let entries = fs::read_dir(crates)
+        .unwrap_or_else(|error| panic!("cannot read {}: {error}", crates.display()));
+    let mut folders = Vec::new();
+    for entry in entries.flatten() {
+        for part in ["src", "specs", "proofs"] {
+            let folder = entry.path().join(part);
+            if folder.is_dir() {
+                folders.push(folder);
+            }
+        }
+    }
+    folders
 }

@@ -48,7 +48,7 @@
 //! Texts are bytes, since "not UTF-8" is one of the answers. No text of more than [`LIMIT`] bytes is looked at; of a document, no longer
 //! DOCTYPE.
 //!
-//! The build takes the archive that the environment variable `MOXKELDI_LIB` names (a whole path), or runs `rt staticlib moxkeldi`.
+//! The build takes the archive that the environment variable `MOXKELDI_LIB` names (a whole path), or runs `rt lib` in `crates/moxkeldi`.
 //!
 //! # Names
 //!
