@@ -1,5 +1,5 @@
-// The check of a whole document. In C its verdict is a struct of eight numbers of one type, which the caller lends: here it is an array, since a
-// function that is lent an array needs no proof by hand.
+// The check of a whole document. In C its verdict is a struct of eight numbers of one type, which the caller lends: here it is an array of
+// them.
 ghost use Rattle.std.specs.Prelude.{◌≡◌};
 ghost use Rattle.spec.specs.Grammar.AppendixB.{appendix_b};
 ghost use Rattle.spec.specs.Grammar.FifthEdition.{fifth_edition};
