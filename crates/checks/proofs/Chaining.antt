@@ -11,7 +11,7 @@ use Rattle.spec.specs.Grammar.Languages.{ascii, one_of}
 use Rattle.spec.specs.Reading.Checks.{is_version_num, parse_eq_quoted, check_declaration}
 use Rattle.spec.specs.Reading.Document.{is_declaration}
 use Rattle.spec.specs.Reading.Dtd.{require_s}
-use Rattle.spec.specs.Reading.Readers.{Result, ok, err, Reader, on_ok, past, ◌>>◌, starts, begins, word}
+use Rattle.spec.specs.Reading.Readers.{Result, ok, err, Reader, on_ok, past, ◌>>◌, starts, word}
 use Rattle.spec.specs.Reading.Refusals.{unexpected}
 use Rattle.spec.specs.Reading.Utf8.{decode1}
 use Rattle.spec.specs.Reading.Verdict.{read_version}

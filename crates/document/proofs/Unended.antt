@@ -1,7 +1,7 @@
 -- What does not end in a text, and where it was opened. Assumes nothing.
 use mathlib.Core.Path.{◌≡◌, refl, sym, ap, ◌∙◌}
 use mathlib.Core.Bool.{Bool, true, false, ◌&&◌, ◌||◌, not, or-false, or_assoc}
-use mathlib.Core.List.{List, ◌∷◌}
+use mathlib.Core.List.{List}
 use Prim.Native.Nat.{ℕ, zero, suc, ◌-◌, ◌<◌, ◌≤◌}
 use native.Mathlib.Nat.{zero-add}
 use native.Mathlib.Omega.{arith}
@@ -20,7 +20,6 @@ use Rattle.search.specs.declared.places.Found.{Found}
 use Rattle.search.specs.declared.places.Found.TheVariants.{Here, Nowhere}
 use Rattle.search.proofs.Finding.{was_nowhere, was_here}
 use Rattle.document.specs.Judgements.{unended_by}
-use Rattle.document.specs.declared.opening.Prolog.TheVariants as P
 
 -- a place within a declaration: t whether one begins, f where its "?>" stands
 module _ (k : ℕ) (x : List ℕ) (t : Bool) (a : t ≡ is_declaration x) where

@@ -23,7 +23,6 @@ use Rattle.spec.proofs.Division.Delimited.{from_end}
 use Rattle.spec.proofs.Division.Unread.{none_unread}
 use Rattle.search.specs.Places.{found, place_from}
 use Rattle.search.specs.declared.places.Found.{Found}
-use Rattle.search.specs.declared.places.Found.TheVariants as Found
 use Rattle.search.proofs.Placing.{from_nowhere, from_here}
 use Rattle.entries.specs.Walk.{walk_start, after_open, unread_from, listed_by, Finds}
 use Rattle.entries.specs.declared.walk.Unread.{Unread}

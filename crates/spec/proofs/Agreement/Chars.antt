@@ -1,5 +1,4 @@
 -- One character of a class: its first sign, and its reader. Assumes nothing.
-use mathlib.Core.Logic
 use mathlib.Core.Bool.{Bool, true, false}
 use mathlib.Core.List.{List, [], ◌∷◌, ◌++◌}
 use mathlib.Core.Logic.{⊎_elim}

@@ -1,5 +1,4 @@
 -- Runs of bytes of an ASCII class, and white space. Assumes nothing.
-use mathlib.Core.Logic
 use mathlib.Core.Bool.{Bool, true, false, not, ◌||◌}
 use mathlib.Core.List.{List, [], ◌∷◌, ◌++◌, append_assoc, append-nil}
 use mathlib.Core.Logic.{⊎_elim}
@@ -14,7 +13,7 @@ use Rattle.spec.specs.Basics.{pick, within}
 use Rattle.spec.specs.Grammar.Characters.{Text, space, S, S?}
 use Rattle.spec.specs.Grammar.Languages.{Lang, ascii, Ch, Star, end, more, Plus, any, among, ◌·◌}
 use Rattle.spec.specs.Reading.Dtd.{skip_s, require_s}
-use Rattle.spec.specs.Reading.Readers.{ok, err, Reader, run, required, char}
+use Rattle.spec.specs.Reading.Readers.{ok, err, Reader, run, required}
 use Rattle.spec.specs.Reading.Refusals.{Refusal, no_space}
 use Rattle.spec.proofs.Agreement.Chars.{kind_encode, sign, ch_some}
 use Rattle.spec.proofs.Agreement.Reads.{Took, Reads, Next, Leads, took_as, took_none}

@@ -1,5 +1,4 @@
 -- The sign that a text begins with, and classes of signs: which may follow is decided by computing. Assumes nothing.
-use mathlib.Core.Logic
 use mathlib.Core.Bool.{Bool, true, false, ◌&&◌, ◌||◌, not}
 use mathlib.Core.List.{List, [], ◌∷◌}
 use mathlib.Core.Logic.{⊎_elim}

@@ -8,7 +8,7 @@ use Prim.Native.Nat.{ℕ, suc, ◌+◌, ◌/◌, ◌%◌, ◌≤◌, ◌<◌}
 use native.Mathlib.Omega.{arith}
 use lib.Dec.{T, leb, ltb, eqb}
 use lib.ListN.{length, length-append}
-use Rattle.spec.specs.Grammar.Languages.{Ch, inl, inr, Star, end, more, any, among}
+use Rattle.spec.specs.Grammar.Languages.{Ch, Star, end, more, any, among}
 use Rattle.spec.specs.Grammar.Utf8.{encode}
 use Rattle.spec.specs.Reading.Utf8.{tail}
 use Rattle.spec.proofs.Base.Tests.{T→true, true→T, false→no, decide, leb_yes, leb_true, leb_false, eqb_yes, eqb_no, and_left, and_right, within_lo, not-true, no→false}

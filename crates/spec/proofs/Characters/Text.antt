@@ -10,7 +10,6 @@ use lib.ListN.{length, length-append}
 use Rattle.spec.specs.Grammar.Characters.{Text}
 use Rattle.spec.specs.Grammar.Languages.{Lang, Ch, Star, end, more, any, ◌·◌, Plus, lit, ascii}
 use Rattle.spec.specs.Grammar.Utf8.{scalar, encode}
-use Rattle.spec.specs.Reading.Readers.{char}
 use Rattle.spec.specs.Reading.Utf8.{decode1, point}
 use Rattle.spec.proofs.Base.Tests.{T→true, true→T, leb_yes, leb_true, and_left, and_right}
 use Rattle.spec.proofs.Characters.Utf8.{encode_nonempty, encode_1, decode_encode}

@@ -1,5 +1,4 @@
 -- Parts of a text that a scan passes: what it finds after them is what it would find there alone. Assumes nothing.
-use mathlib.Core.Logic
 use mathlib.Core.Bool.{Bool, true, false, ◌&&◌, ◌||◌, not, true≢false, or-false}
 use mathlib.Core.List.{List, [], ◌∷◌, ◌++◌, append_assoc}
 use mathlib.Core.Path.{◌≡◌, refl, sym, ◌∙◌, ap, subst}

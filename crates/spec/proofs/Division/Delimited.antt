@@ -17,7 +17,7 @@ use Rattle.spec.specs.Grammar.Names.{Dialect, AsciiNames}
 use Rattle.spec.specs.Reading.Dtd.{skip_s, finish_decl, take_decl_body, has_pe_reference, parse_pe_reference, parse_markup_decl, parse_element_decl, parse_attlist_decl, parse_entity_decl, parse_notation_decl}
 use Rattle.spec.specs.Reading.Entries.{kind_at, one_entry, listed, entries_fuel, entries_from, from_open, declarations}
 use Rattle.spec.specs.Reading.Places.{outside}
-use Rattle.spec.specs.Reading.Readers.{Result, ok, err, Reader, on_ok, past, ◌>>◌, nothing, starts, choose, on, word_of, run}
+use Rattle.spec.specs.Reading.Readers.{Result, ok, err, Reader, on_ok, ◌>>◌, nothing, starts, choose, on, word_of, run}
 use Rattle.spec.specs.Reading.Refusals.{Refusal, unexpected, too_deep}
 use Rattle.spec.specs.Reading.Scan.{subset_open}
 use Rattle.spec.proofs.Agreement.Runs.{not_space, skip}

@@ -20,7 +20,7 @@ use Rattle.spec.specs.Grammar.Languages.{Lang, lit, ascii, ◌·◌, ◌∣◌, 
 use Rattle.spec.specs.Grammar.Names.{Dialect, PEReference, AsciiNames}
 use Rattle.spec.specs.Reading.Refusals.{too_deep}
 use Rattle.spec.specs.Reading.Dtd.{skip_s, parse_pe_reference, parse_markup_decl}
-use Rattle.spec.specs.Reading.Readers.{ok, Reader, starts, on, past}
+use Rattle.spec.specs.Reading.Readers.{ok, Reader, starts, on}
 use Rattle.spec.specs.Reading.Places.{at, outside}
 use Rattle.spec.specs.Reading.Scan.{subset_open}
 use Rattle.spec.proofs.Agreement.Algebra.{◌then◌, cat₂, assoc}

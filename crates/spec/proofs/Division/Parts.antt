@@ -12,7 +12,6 @@ use Rattle.spec.specs.Grammar.Doctype.{doctypedecl}
 use Rattle.spec.specs.Grammar.Languages.{ascii}
 use Rattle.spec.specs.Grammar.Names.{Dialect}
 use Rattle.spec.specs.Premise.{promised, premised}
-use Rattle.spec.specs.Reading.Readers.{past}
 use Rattle.spec.specs.Reading.Scan.{scan}
 
 module _ (D : Dialect) where

@@ -12,7 +12,6 @@ use Rattle.spec.specs.Grammar.Characters.{S?}
 use Rattle.spec.specs.Grammar.Division.{Entry, refers, entry_of, Front, Fills, Division}
 use Rattle.spec.specs.Grammar.Names.{Dialect, AsciiNames}
 use Rattle.spec.specs.Premise.{promised, bare, premised, premise}
-use Rattle.spec.specs.Reading.Readers.{past}
 use Rattle.spec.specs.Grammar.Doctype.{doctypedecl}
 use Rattle.spec.specs.Reading.Entries.{from_open, declarations}
 use Rattle.spec.specs.Reading.Places.{at, nowhere, outside}

@@ -23,7 +23,7 @@ use Rattle.spec.proofs.Base.Loops.{Somes}
 use Rattle.spec.proofs.Base.Outside.{outside_within}
 use Rattle.spec.proofs.Base.Somes.{some_char}
 use Rattle.spec.proofs.Base.Tests.{eqb-true}
-use Rattle.spec.proofs.Document.Steady.{Closing, Firm, Steady, Any, whatever, Own, closing_back, closing_some, closing_here, starts_stands, decode_stands, begins_stands, steady_as, steady_nothing, steady_choose, steady_then, steady_while, steady_skip, starts_same, take_longer, outside_longer, own_up_to, own_after}
+use Rattle.spec.proofs.Document.Steady.{Closing, Firm, Steady, Any, Own, closing_back, closing_some, closing_here, starts_stands, decode_stands, begins_stands, steady_as, steady_nothing, steady_choose, steady_then, steady_while, steady_skip, starts_same, take_longer, outside_longer, own_up_to, own_after}
 use Rattle.spec.proofs.Dtd.Items.{item, items, items_turn, subset_items, some_reference, some_markup}
 
 -- A reader whose answers stand where a '>' is left, after what is taken or from the place of what is refused on.

@@ -1,5 +1,4 @@
 -- The encoding that is found in an XML declaration is the grammar's. Assumes nothing.
-use mathlib.Core.Logic
 use mathlib.Core.Bool.{true}
 use mathlib.Core.List.{List, [], ◌∷◌, ◌++◌, append_assoc, append-nil}
 use mathlib.Core.Path.{◌≡◌, refl, sym, ◌∙◌, ap, subst}

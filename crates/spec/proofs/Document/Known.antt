@@ -17,7 +17,7 @@ use Rattle.spec.specs.Grammar.Utf8.{scalar, encode}
 use Rattle.spec.specs.Reading.Checks.{check_declaration}
 use Rattle.spec.specs.Reading.Document.{at_most, unless_closed, closing, is_declaration, read_declaration, item_here, read_item, read_misc, read_doctype, read_opening, read_ending, read_prolog, read_other, read_tag, read_beginning}
 use Rattle.spec.specs.Reading.Dtd.{skip_s, check_comment, parse_comment, check_pi, parse_pi}
-use Rattle.spec.specs.Reading.Readers.{Result, ok, err, Reader, on_ok, past, ◌>>◌, refuse, some_left, starts, choose, on, word, word_of, run, contains, begins, char}
+use Rattle.spec.specs.Reading.Readers.{Result, ok, err, Reader, on_ok, past, ◌>>◌, refuse, some_left, starts, choose, on, word, word_of, run, contains, begins}
 use Rattle.spec.specs.Reading.Refusals.{Refusal, number, too_long, unterminated, unexpected, out_of_order, bad_name}
 use Rattle.spec.specs.Reading.Utf8.{point, decode1}
 use Rattle.spec.specs.Reading.Wellformed.{name}

@@ -16,7 +16,7 @@ use Rattle.spec.specs.Grammar.Characters.{space}
 use Rattle.spec.specs.Grammar.Languages.{ascii, one_of}
 use Rattle.spec.specs.Grammar.Utf8.{encode}
 use Rattle.spec.specs.Reading.Dtd.{skip_s}
-use Rattle.spec.specs.Reading.Places.{at, nowhere, later, outside}
+use Rattle.spec.specs.Reading.Places.{at, later, outside}
 use Rattle.spec.specs.Reading.Readers.{Result, ok, err, Reader, on_ok, past, ◌>>◌, nothing, starts, choose, word, word_of, run, contains, before, up_to, refuse, begins, while, of_point}
 use Rattle.spec.specs.Reading.Refusals.{Refusal, number, unterminated}
 use Rattle.spec.specs.Reading.Utf8.{Point, point, no_point, decode4, decode1, lead_3, lead_4}

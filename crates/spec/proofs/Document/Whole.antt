@@ -18,7 +18,7 @@ use Rattle.spec.proofs.Agreement.Chars.{ch_some, begins_ch}
 use Rattle.spec.proofs.Base.Tests.{and_right}
 use Rattle.spec.proofs.Characters.Bytes.{avoids, class_avoids}
 use Rattle.spec.proofs.Characters.Text.{cat_size}
-use Rattle.spec.proofs.Document.Front.{mark, Marked, marked, bare, mark_there, no_mark, Opens, opens_narrow, uncut}
+use Rattle.spec.proofs.Document.Front.{Marked, marked, bare, mark_there, no_mark, Opens, opens_narrow, uncut}
 use Rattle.spec.proofs.Document.Right.{right, accepted_right, longer, accepted_stays}
 
 -- how a document begins

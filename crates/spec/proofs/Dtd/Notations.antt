@@ -1,5 +1,4 @@
 -- Names without a colon, and notation declarations. Assumes nothing.
-use mathlib.Core.Logic
 use mathlib.Core.Bool.{Bool, true, false, ◌&&◌, ◌||◌, and-false}
 use mathlib.Core.List.{List, [], ◌∷◌, ◌++◌}
 use mathlib.Core.Path.{◌≡◌, refl, sym, ◌∙◌, ap}

@@ -1,5 +1,4 @@
 -- Names, tokens and check_name, for every dialect with XML's ASCII name characters. Assumes nothing.
-use mathlib.Core.Logic
 use mathlib.Core.Bool.{Bool, true, false, ◌||◌, not}
 use mathlib.Core.Logic.{⊎_elim}
 use mathlib.Core.Path.{◌≡◌, refl, ◌∙◌}
@@ -8,7 +7,7 @@ use lib.Dec.{T, ltb, eqb}
 use Rattle.spec.specs.Grammar.Languages.{Ch, Star}
 use Rattle.spec.specs.Grammar.Names.{Dialect, start_sign, part_sign, AsciiNames, Name, Nmtoken}
 use Rattle.spec.specs.Reading.Dtd.{nmtoken}
-use Rattle.spec.specs.Reading.Readers.{begins, char, at_end}
+use Rattle.spec.specs.Reading.Readers.{begins, at_end}
 use Rattle.spec.specs.Reading.Refusals.{bad_name}
 use Rattle.spec.specs.Reading.Wellformed.{parts, name, check_name}
 use Rattle.spec.proofs.Agreement.Algebra.{none_after}

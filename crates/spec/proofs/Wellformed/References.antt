@@ -1,5 +1,4 @@
 -- Character references: their reader, their bytes, and that they take a byte or more. Assumes nothing.
-use mathlib.Core.Logic
 use mathlib.Core.Bool.{Bool, true, false, ◌&&◌, ◌||◌, not, true≢false}
 use mathlib.Core.List.{List, [], ◌∷◌, ◌++◌, append_assoc}
 use mathlib.Core.Path.{◌≡◌, refl, sym, ◌∙◌, ap, subst}
