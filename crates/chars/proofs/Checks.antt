@@ -80,4 +80,4 @@ calm_end s e = rw e
 -- what the checks' loops search, and what the pass searches
 pub ruleset walks = (some_legal, some_ref_or_byte, plain_chars, plain_refs, chars_from, refs_from, steps)
 
-pub ruleset CalmPass = (calm_text, passing)
+pub ruleset calm_pass = (calm_text, passing)

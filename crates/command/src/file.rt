@@ -1,7 +1,7 @@
 // Reading a file, as much of it as is held.
 use crate::console::fail;
 use crate::{bytes, escape, links};
-use std::io::{Error, Input, Read};
+use std::io::{Error, Read};
 use std::{fs, str};
 
 // So many bytes of a file are held: room for a DOCTYPE that is too long, and for much in front of it.
@@ -21,7 +21,7 @@ pub fn fill(rt: &HostRuntime, name: &[u8], i: usize, buffer: &mut [u8], out: &mu
         return told(
             rt,
             b"standard input",
-            read_full(&mut rt.reader(), buffer),
+            read_full(&mut rt.stdin(), buffer),
             out,
         );
     }

@@ -26,6 +26,6 @@ pub fn open(rt: &HostRuntime, i: usize) -> Result<File, Error> {
 fn unnamed() -> Error {
     Error::new(
         ErrorKind::InvalidInput,
-        "a name that is not UTF-8 can be opened by the script moxkeldi alone",
+        "its name is not UTF-8, and the script moxkeldi has made no link to it",
     )
 }

@@ -20,7 +20,7 @@ use options::{Manner, Options, Word};
 use std::env::{Env, FillError};
 use std::io::Error;
 
-// Where the exit status goes, as a digit: a program cannot set its own, so the script that starts it reads it there.
+// Where the exit status goes, as a digit: the script that starts the program reads it there.
 const STATUS_FILENO: i32 = 3;
 
 // The exit status: all files accepted, one refused, or one that could not be read (also wrong usage). The highest counts.

@@ -20,10 +20,8 @@ mod text;
 
 use bytes::Word;
 use line::Line;
+use std::io::Read;
 use tally::Tally;
-
-// Standard input.
-const STDIN_FILENO: i32 = 0;
 
 // What is carried from one part of the input to the next.
 #[derive(Clone, Copy)]
@@ -71,22 +69,31 @@ fn follow(
     }
 }
 
-// Reads as much as there is room for and goes on through what came. Nothing comes at the end of the input, and where a read
+// Reads once and goes on through what came. Nothing comes at the end of the input, and where a read
 // fails.
 fn read_some(
+    rt: &HostRuntime,
     from: Progress,
     input: &mut [u8],
     call: &mut Word,
     answer: &mut Word,
     text: &mut [u8],
 ) -> Progress {
-    let n = io::read_full(STDIN_FILENO, input);
-    follow(from, &input[..n], call, answer, text)
+    match rt.stdin().read(input) {
+        Ok(n) => follow(from, &input[..n], call, answer, text),
+        Err(_) => follow(from, &input[..0], call, answer, text),
+    }
 }
 
 // A proved loop has to end, and nothing says that the input does. So the loop counts its turns down,
 // from a number that no run uses up.
-fn read_all(input: &mut [u8], call: &mut Word, answer: &mut Word, text: &mut [u8]) -> Progress {
+fn read_all(
+    rt: &HostRuntime,
+    input: &mut [u8],
+    call: &mut Word,
+    answer: &mut Word,
+    text: &mut [u8],
+) -> Progress {
     let line = line::fresh();
     let tally = tally::fresh();
     let mut progress = Progress {
@@ -96,18 +103,18 @@ fn read_all(input: &mut [u8], call: &mut Word, answer: &mut Word, text: &mut [u8
     };
     let mut turns = u64::MAX;
     while turns > 0 && progress.more {
-        progress = read_some(progress, input, call, answer, text);
+        progress = read_some(rt, progress, input, call, answer, text);
         turns -= 1;
     }
     progress
 }
 
-fn main() {
+fn main(rt: HostRuntime) {
     let mut input = io::large_buffer();
     let mut text = room();
     let mut call = [0u8; 64];
     let mut answer = [0u8; 64];
-    let progress = read_all(&mut input, &mut call, &mut answer, &mut text);
+    let progress = read_all(&rt, &mut input, &mut call, &mut answer, &mut text);
     // The last line may lack its newline; one that has it left an empty line here, which does not count.
     let line = progress.line;
     let tally = tally::close(progress.tally, line, &call, &answer, &mut text);
