@@ -6,14 +6,13 @@ use Prim.Native.Nat.{ℕ, ◌+◌, ◌<◌, ◌≤◌}
 use native.Mathlib.Nat.{add-zero}
 use lib.Dec.{eqb, leb, ltb}
 use lib.ListN.{length, get_or, drop}
-use Rattle.spec.specs.Grammar.Languages.{none_of}
+use Rattle.std.specs.Prelude.{Ok}
 use Rattle.spec.specs.Grammar.Characters.{xml_char}
 use Rattle.spec.specs.Reading.Readers.{starts, a_byte}
 use Rattle.spec.specs.Reading.Wellformed.{illegal_here}
-use Rattle.spec.proofs.Base.Tests.{eqb_no, or_false_left, or_false_right}
+use Rattle.spec.proofs.Base.Tests.{eqb_no}
 use Rattle.spec.proofs.Base.Places.{drop_at, drop_end}
 use Rattle.error.specs.Read.{said, read}
-use Rattle.error.specs.declared.Answer.TheVariants.{At}
 use Rattle.error.proofs.Laws.{chain}
 use Rattle.chars.specs.Bytes.{suspect, special}
 
@@ -31,19 +30,15 @@ unfolding special
 special_is mark b t e = rw e
 
 -- the next byte
-pub byte_here : (s : List ℕ) (i : ℕ) → i < length s → said (At (i + 1)) ≡ read a_byte s i
+pub byte_here : (s : List ℕ) (i : ℕ) → i < length s → said (Ok (i + 1)) ≡ read a_byte s i
 unfolding read said a_byte
 byte_here s i h = rw (drop_at s i h)
 
-pub byte_none : (s : List ℕ) (i : ℕ) → length s ≤ i → said (At i) ≡ read a_byte s i
+pub byte_none : (s : List ℕ) (i : ℕ) → length s ≤ i → said (Ok i) ≡ read a_byte s i
 unfolding read said a_byte
 byte_none s i h = rw (drop_end s i h, add-zero)
 
 -- an illegal character begins with a suspect byte
-pub calm : (b : ℕ) (w : List ℕ) → suspect b ≡ false → illegal_here (b ∷ w) ≡ false
-unfolding suspect illegal_here starts
-calm b w e = rw (or_false_left (ltb b 0x20 && none_of "\t\n\r" b) (eqb b 0xEF) e, or_false_right (ltb b 0x20 && none_of "\t\n\r" b) (eqb b 0xEF) e)
-
 pub illegal_none : (s : List ℕ) (i : ℕ) → length s ≤ i → false ≡ illegal_here (drop i s)
 unfolding illegal_here
 illegal_none s i h = rw (drop_end s i h)

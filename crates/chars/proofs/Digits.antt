@@ -1,7 +1,7 @@
 -- Digits of a character reference, one by one, with a value that stops. Assumes nothing.
 use mathlib.Core.Path.{◌≡◌, refl, sym, ◌∙◌}
 use mathlib.Core.Logic.{◌⊎◌, inl, inr}
-use mathlib.Core.Bool.{Bool, true, false, ◌&&◌, ◌||◌, or-false}
+use mathlib.Core.Bool.{Bool, true, false, ◌&&◌, ◌||◌}
 use mathlib.Core.List.{List, [], ◌∷◌}
 use Prim.Native.Nat.{ℕ, ◌+◌, ◌-◌, ◌*◌, ◌<◌, ◌≤◌, min}
 use native.Mathlib.Omega.{arith}
@@ -16,12 +16,9 @@ use Rattle.spec.specs.Reading.Readers.{run}
 use Rattle.spec.proofs.Base.Tests.{decide, leb_true, leb_false, eqb_no, within_lo, within_high}
 use Rattle.spec.proofs.Base.Places.{drop_at, drop_end}
 use Rattle.chars.specs.Digits.{base, digit_of, past_points, DigitsRead}
+use Rattle.chars.specs.declared.references.Radix.{Radix}
+use Rattle.chars.specs.declared.references.Radix.TheVariants.{Decimal, Hex}
 use Rattle.search.proofs.Runs.{run_end, run_stop, run_go}
-
--- a digit
-pub digit_is : (hex : Bool) (b : ℕ) → leb 0x30 b && leb b 0x39 || hex && (leb 0x41 b && leb b 0x46) || hex && (leb 0x61 b && leb b 0x66) ≡ digit_of hex b
-digit_is true b = refl
-digit_is false b = simp or-false
 
 module _ (b : ℕ) where
   pub value_decimal : within 0x30 0x39 b ≡ true → b - 0x30 ≡ digit_value b
@@ -44,57 +41,51 @@ module _ (b : ℕ) where
     value_none e h = let z : b - 0x57 ≡ digit_value b = value_lower e in omega arith
 
 -- one digit more, where the value has passed all code points or not
-pub add_stopped : (hex : Bool) (v d : ℕ) → past_points ≤ v → min v past_points ≡ min (v * base hex + d) past_points
-add_stopped true v d h = omega arith
-add_stopped false v d h = omega arith
-
-pub add_hex : (hex : Bool) (v d : ℕ) → hex ≡ true → min (v * 16 + d) past_points ≡ min (v * base hex + d) past_points
-add_hex hex v d e = rw e
-
-pub add_decimal : (hex : Bool) (v d : ℕ) → hex ≡ false → min (v * 10 + d) past_points ≡ min (v * base hex + d) past_points
-add_decimal hex v d e = rw e
+pub add_stopped : (radix : Radix) (v d : ℕ) → past_points ≤ v → min v past_points ≡ min (v * base radix + d) past_points
+add_stopped Decimal v d h = omega arith
+add_stopped Hex v d h = omega arith
 
 -- so it does not matter how far past them a value is
-alike_add : (hex : Bool) (a b d : ℕ) → min a past_points ≡ min b past_points → min (a * base hex + d) past_points ≡ min (b * base hex + d) past_points
-alike_add true a b d e = omega arith
-alike_add false a b d e = omega arith
+alike_add : (radix : Radix) (a b d : ℕ) → min a past_points ≡ min b past_points → min (a * base radix + d) past_points ≡ min (b * base radix + d) past_points
+alike_add Decimal a b d e = omega arith
+alike_add Hex a b d e = omega arith
 
-alike : (hex : Bool) (w : List ℕ) (a b : ℕ) → min a past_points ≡ min b past_points → min (value_on (base hex) a w) past_points ≡ min (value_on (base hex) b w) past_points
+alike : (radix : Radix) (w : List ℕ) (a b : ℕ) → min a past_points ≡ min b past_points → min (value_on (base radix) a w) past_points ≡ min (value_on (base radix) b w) past_points
 unfolding value_on
-alike hex [] a b e = e
-alike hex (d ∷ w) a b e = alike hex w (a * base hex + digit_value d) (b * base hex + digit_value d) (alike_add hex a b (digit_value d) e)
+alike radix [] a b e = e
+alike radix (d ∷ w) a b e = alike radix w (a * base radix + digit_value d) (b * base radix + digit_value d) (alike_add radix a b (digit_value d) e)
 
 -- how many digits stand first, and their value after those that stand for n
-abbrev digits : Bool → List ℕ → ℕ
-digits hex w = run (digit_of hex) w
+abbrev digits : Radix → List ℕ → ℕ
+digits radix w = run (digit_of radix) w
 
-abbrev value : Bool → ℕ → List ℕ → ℕ
-value hex n w = min (value_on (base hex) n (take (digits hex w) w)) past_points
+abbrev value : Radix → ℕ → List ℕ → ℕ
+value radix n w = min (value_on (base radix) n (take (digits radix w) w)) past_points
 
 -- the loop's invariant: the digits from `at` on end where those from i on do, and v stands for those before i
-pub record DigitsLeft (hex : Bool) (s : List ℕ) (at i v : ℕ) : Type 0 where
-  pub ends : i + digits hex (drop i s) ≡ at + digits hex (drop at s)
-  pub value_is : value hex v (drop i s) ≡ value hex 0 (drop at s)
+pub record DigitsLeft (radix : Radix) (s : List ℕ) (at i v : ℕ) : Type 0 where
+  pub ends : i + digits radix (drop i s) ≡ at + digits radix (drop at s)
+  pub value_is : value radix v (drop i s) ≡ value radix 0 (drop at s)
 
-pub digits_all : (hex : Bool) (s : List ℕ) (at : ℕ) → DigitsLeft hex s at at 0
-digits_all hex s at = record { ends = refl; value_is = refl }
+pub digits_all : (radix : Radix) (s : List ℕ) (at : ℕ) → DigitsLeft radix s at at 0
+digits_all radix s at = record { ends = refl; value_is = refl }
 
-module _ (hex : Bool) (s : List ℕ) (at i v : ℕ) (inv : DigitsLeft hex s at i v) where
-  pub digits_end : (x : ℕ) → length s ≤ i → x ≡ min v past_points → DigitsRead hex s at i x
+module _ (radix : Radix) (s : List ℕ) (at i v : ℕ) (inv : DigitsLeft radix s at i v) where
+  pub digits_end : (x : ℕ) → length s ≤ i → x ≡ min v past_points → DigitsRead radix s at i x
   unfolding value_on run
-  digits_end x h k = record { ends = run_end (digit_of hex) s at i inv.ends h; value = k ∙ (rw (drop_end s i h) at inv.value_is) }
+  digits_end x h k = record { ends = run_end (digit_of radix) s at i inv.ends h; value = k ∙ (rw (drop_end s i h) at inv.value_is) }
 
-  pub digits_stop : (t : Bool) (x : ℕ) → i < length s → t ≡ digit_of hex (get_or s i 0) → t ≡ false → x ≡ min v past_points → DigitsRead hex s at i x
+  pub digits_stop : (t : Bool) (x : ℕ) → i < length s → t ≡ digit_of radix (get_or s i 0) → t ≡ false → x ≡ min v past_points → DigitsRead radix s at i x
   unfolding value_on run
-  digits_stop t x h d f k = record { ends = run_stop (digit_of hex) s at i inv.ends h (sym d ∙ f); value = k ∙ (rw (drop_at s i h, sym d ∙ f) at inv.value_is) }
+  digits_stop t x h d f k = record { ends = run_stop (digit_of radix) s at i inv.ends h (sym d ∙ f); value = k ∙ (rw (drop_at s i h, sym d ∙ f) at inv.value_is) }
 
-  pub digits_go : (t : Bool) (d x : ℕ) → i < length s → t ≡ digit_of hex (get_or s i 0) → t ≡ true → d ≡ digit_value (get_or s i 0) → min x past_points ≡ min (v * base hex + d) past_points → DigitsLeft hex s at (i + 1) x
+  pub digits_go : (t : Bool) (d x : ℕ) → i < length s → t ≡ digit_of radix (get_or s i 0) → t ≡ true → d ≡ digit_value (get_or s i 0) → min x past_points ≡ min (v * base radix + d) past_points → DigitsLeft radix s at (i + 1) x
   unfolding value_on run
   digits_go t d x h c f g k =
       let l = drop (i + 1) s in
       record {
-        ends = run_go (digit_of hex) s at i inv.ends h (sym c ∙ f);
-        value_is = alike hex (take (digits hex l) l) x (v * base hex + digit_value (get_or s i 0)) (rw g at k) ∙ (rw (drop_at s i h, sym c ∙ f) at inv.value_is);
+        ends = run_go (digit_of radix) s at i inv.ends h (sym c ∙ f);
+        value_is = alike radix (take (digits radix l) l) x (v * base radix + digit_value (get_or s i 0)) (rw g at k) ∙ (rw (drop_at s i h, sym c ∙ f) at inv.value_is);
       }
 
 -- a value that stopped is no Char, and the value itself is none then
@@ -111,8 +102,8 @@ char_stopped n = go (decide (leb past_points n))
     go (inl e) = let h = leb_true past_points n e in beyond (min n past_points) (omega arith) ∙ sym (beyond n h)
     go (inr e) = let h = leb_false past_points n e in let z : min n past_points ≡ n = omega arith in rw z
 
-pub ruleset digit_values = (digit_is, value_decimal, value_upper, value_lower, value_none, within_lo, upper_above, leb_false, not-true, rules)
+pub ruleset digit_values = (value_decimal, value_upper, value_lower, value_none, within_lo, upper_above, leb_false, not-true, rules)
 
-pub ruleset digit_sums = (add_stopped, add_hex, add_decimal, rules)
+pub ruleset digit_sums = (add_stopped, rules)
 
 pub ruleset digit_runs = (digits_all, digits_end, digits_stop, digits_go, not-true, not-false, rules)

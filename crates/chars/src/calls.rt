@@ -1,56 +1,44 @@
-// The public checks of characters and references: 1 and 2 first, then the number of the check's own rule, alone or with its place.
+// The public checks of characters and references: 1 and 2 first, then the check's own rule, alone or with its place. Each is two
+// calls, and one function over the rule would have them too, with the rule's language as a parameter more.
 ghost use Rattle.spec.specs.Grammar.Characters.{Chars};
 ghost use Rattle.spec.specs.Grammar.References.{Referred};
 ghost use Rattle.spec.specs.Reading.Wellformed.{check_chars, check_char_refs};
 ghost use Rattle.spec.specs.Promises.{Checks, Stops};
+ghost use Rattle.error.specs.Read.{code, answer_number, answer_place};
 
-use crate::chars::{chars_number, walk_chars};
-use crate::references::{char_refs_number, walk_char_refs};
-use error::{ACCEPTED, Answer, Stop, stopped};
+use crate::chars::{chars_admitted, walk_chars};
+use crate::references::{char_refs_admitted, walk_char_refs};
+use error::{Answer, Verdict};
 use source::{admit, admit_at};
 
 // Every character is a Char (production 2).
-pub fn check_chars(text: &[u8]) -> u8
-    ensures { Checks check_chars Chars text.now result }
+pub fn check_chars(text: &[u8]) -> Verdict
+    ensures { Checks check_chars Chars text.now (code result) }
 {
-    let n = admit(text);
-    if n != ACCEPTED {
-        return n;
-    }
-    chars_number(text)
+    admit(text)?;
+    chars_admitted(text)
 }
 
 // The same with the place: the first character that is none.
-pub fn check_chars_at(text: &[u8]) -> Stop
-    ensures { Stops check_chars text.now result.number result.place }
+pub fn check_chars_at(text: &[u8]) -> Answer
+    ensures { Stops check_chars text.now (answer_number result) (answer_place result) }
 {
-    let a = admit_at(text);
-    let Answer::At(_) = a else {
-        return stopped(a);
-    };
-    let r = walk_chars(text);
-    stopped(r)
+    admit_at(text)?;
+    walk_chars(text)
 }
 
 // Every "&#" begins a character reference (production 66) to a Char.
-pub fn check_char_refs(text: &[u8]) -> u8
-    ensures { Checks check_char_refs Referred text.now result }
+pub fn check_char_refs(text: &[u8]) -> Verdict
+    ensures { Checks check_char_refs Referred text.now (code result) }
 {
-    let n = admit(text);
-    if n != ACCEPTED {
-        return n;
-    }
-    char_refs_number(text)
+    admit(text)?;
+    char_refs_admitted(text)
 }
 
 // The same with the place: the '&' of the first bad reference.
-pub fn check_char_refs_at(text: &[u8]) -> Stop
-    ensures { Stops check_char_refs text.now result.number result.place }
+pub fn check_char_refs_at(text: &[u8]) -> Answer
+    ensures { Stops check_char_refs text.now (answer_number result) (answer_place result) }
 {
-    let a = admit_at(text);
-    let Answer::At(_) = a else {
-        return stopped(a);
-    };
-    let r = walk_char_refs(text, 0);
-    stopped(r)
+    admit_at(text)?;
+    walk_char_refs(text, 0)
 }

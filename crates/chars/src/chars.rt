@@ -1,16 +1,18 @@
 // Characters: is_xml_char, check_suspect_byte and check_chars of wellformed.rs.
-ghost use Rattle.std.specs.Prelude.{◌≡◌, false, length, drop};
+ghost use Rattle.std.specs.Prelude.{◌≡◌, false, length, drop, Ok};
 ghost use Rattle.spec.specs.Grammar.Characters.{xml_char};
 ghost use Rattle.spec.specs.Reading.Readers.{ok, number_of, stop_of, a_byte};
 ghost use Rattle.spec.specs.Reading.Wellformed.{illegal_here, legal_byte, check_chars};
-ghost use Rattle.error.specs.Read.{said, read};
+ghost use Rattle.error.specs.Read.{said, read, code};
 ghost use Rattle.chars.specs.Bytes.{suspect};
+ghost use Rattle.chars.specs.Rules.{steady_legal};
 
-use crate::skip::{CALM, is_special, skip_blocks};
-use error::{Answer, number, stopped};
+use crate::rules::{Rule, walk};
+use error::{Answer, Refusal, Verdict};
 use search::at_keyword;
 
 // Production 2, Char.
+#[tactic(auto, using(crate::proofs::Bytes::bytes))]
 pub fn is_xml_char(c: u32) -> bool
     ensures { result ≡ xml_char c }
 {
@@ -23,6 +25,7 @@ pub fn is_xml_char(c: u32) -> bool
 }
 
 // CHAR_SUSPECT by compares, so that a loop over it becomes vector code.
+#[tactic(auto, using(crate::proofs::Bytes::bytes))]
 pub fn is_suspect(b: u8) -> bool
     ensures { result ≡ suspect b }
 {
@@ -30,16 +33,18 @@ pub fn is_suspect(b: u8) -> bool
 }
 
 // The place after the next byte; at the end there is none.
-pub fn next_byte(s: &[u8], i: usize) -> Answer
-    ensures { said result ≡ read a_byte s.now i }
+#[tactic(auto, using(crate::proofs::Bytes::bytes))]
+pub fn next_byte(s: &[u8], i: usize) -> usize
+    ensures { said (Ok result) ≡ read a_byte s.now i }
 {
     if i < s.len() {
-        return Answer::At(i + 1);
+        return i + 1;
     }
-    Answer::At(i)
+    i
 }
 
 // Whether an illegal character begins here: 0xEF begins U+FFFE and U+FFFF, and legal characters too.
+#[tactic(auto, using(crate::proofs::Bytes::bytes))]
 fn is_illegal_at(s: &[u8], i: usize) -> bool
     ensures { result ≡ illegal_here (drop i s.now) }
 {
@@ -53,73 +58,72 @@ fn is_illegal_at(s: &[u8], i: usize) -> bool
 }
 
 // On any byte, also one that is not suspect; at the end nothing is refused.
+#[tactic(auto, using(crate::proofs::Bytes::bytes), unfolding(spec::specs::Reading::Wellformed::legal_byte))]
 pub fn check_suspect_byte(s: &[u8], i: usize) -> Answer
     ensures { said result ≡ read legal_byte s.now i }
 {
     if is_illegal_at(s, i) {
-        return Answer::No(error::ILLEGAL_CHAR, i);
+        return Err(Refusal::IllegalChar.at(i));
     }
-    next_byte(s, i)
+    Ok(next_byte(s, i))
 }
 
 // The pass that accepts most texts: it stops nowhere, so that it becomes vector code.
+#[tactic(auto, using(crate::proofs::Checks::calm_pass))]
 fn any_suspect(text: &[u8]) -> bool
     ensures { result ≡ false → check_chars text.now ≡ ok (length text.now) }
 {
     let mut found = false;
-    let mut i: usize = 0;
-    while i < text.len() {
-        found = found | is_suspect(text[i]);
-        i += 1;
+    for b in text {
+        found = found | is_suspect(*b);
     }
     found
 }
 
-// The pass that decides where a suspect byte stands. It has no mark of its own: 0xEF is suspect anyway.
+// check_chars looks at suspect bytes alone. It has no mark of its own: 0xEF is suspect anyway.
+struct Legal;
+
+impl Rule for Legal {
+    ghost MARK = { 0xEF };
+
+    const MARK: u8 = 0xEF;
+
+    ghost reader = { legal_byte };
+
+    ghost steady = { steady_legal 0xEF };
+
+    fn step(s: &[u8], at: usize) -> Answer {
+        check_suspect_byte(s, at)
+    }
+}
+
+// The pass that decides where a suspect byte stands.
+#[tactic(auto, unfolding(spec::specs::Reading::Wellformed::check_chars))]
 pub fn walk_chars(text: &[u8]) -> Answer
     ensures { said result ≡ read check_chars text.now 0 }
 {
-    let mut i: usize = 0;
-    let mut calm: usize = 0;
-    while i < text.len() {
-        if is_special(0xEF, text[i]) {
-            let r = check_suspect_byte(text, i);
-            let Answer::At(j) = r else {
-                return r;
-            };
-            i = j;
-            calm = 0;
-            continue;
-        }
-        i += 1;
-        if calm < CALM {
-            calm += 1;
-            continue;
-        }
-        i = skip_blocks(text, i, 0xEF);
-        calm = 0;
-    }
-    Answer::At(i)
+    walk::<Legal>(text, 0)
 }
 
-// check_chars on any bytes, without the two numbers that come first.
-pub fn chars_number(text: &[u8]) -> u8
-    ensures { result ≡ number_of (check_chars text.now) }
+// check_chars on any bytes, without the two refusals that come first.
+pub fn chars_admitted(text: &[u8]) -> Verdict
+    ensures { code result ≡ number_of (check_chars text.now) }
 {
     if any_suspect(text) {
-        let r = walk_chars(text);
-        return number(r);
+        walk_chars(text)?;
     }
-    error::ACCEPTED
+    Ok(())
 }
 
 // The first byte of the first illegal character, or the text's end.
 pub fn chars_end(text: &[u8]) -> usize
     ensures { result ≡ stop_of (check_chars text.now) }
 {
-    if any_suspect(text) {
-        let r = walk_chars(text);
-        return stopped(r).place;
+    if !any_suspect(text) {
+        return text.len();
     }
-    text.len()
+    match walk_chars(text) {
+        Ok(end) => end,
+        Err(fault) => fault.place,
+    }
 }

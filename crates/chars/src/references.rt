@@ -3,24 +3,24 @@ ghost use Rattle.std.specs.Prelude.{◌≡◌, ◌+◌, ◌*◌, min};
 ghost use Rattle.spec.specs.Grammar.References.{digit_value};
 ghost use Rattle.spec.specs.Reading.Readers.{number_of};
 ghost use Rattle.spec.specs.Reading.Wellformed.{reference, char_ref, ref_or_byte, check_char_refs};
-ghost use Rattle.error.specs.Read.{said, read};
+ghost use Rattle.error.specs.Read.{said, read, code};
 ghost use Rattle.chars.specs.Digits.{base, digit_of, past_points, DigitsRead};
 ghost use Rattle.chars.specs.References.{reference_said};
+ghost use Rattle.chars.specs.Rules.{steady_refs};
 
 use crate::chars::{is_xml_char, next_byte};
-use crate::skip::{CALM, is_special, skip_blocks};
-use error::{Answer, number};
+use crate::rules::{Rule, walk};
+use error::{Answer, Refusal, Verdict};
 use search::at_keyword;
 
 // The first number past all code points.
 const PAST_POINTS: u32 = 0x110000;
 
-// What stands at "&#": a reference and where it ends, or the number of what is wrong with it. Its place is the caller's: a place more to
-// carry through the loop over digits would make references slower by a tenth.
-#[derive(Clone, Copy)]
-pub enum Reference {
-    Ends(usize),
-    Bad(u8),
+// What a reference's digits are.
+#[derive(Clone, Copy, PartialEq, Eq)]
+enum Radix {
+    Decimal,
+    Hex,
 }
 
 // Where digits end, and their value.
@@ -30,20 +30,23 @@ struct Digits {
     value: u32,
 }
 
-fn is_digit(hex: bool, b: u8) -> bool
-    ensures { result ≡ digit_of hex b }
+#[tactic(auto, using(crate::proofs::Digits::digit_values))]
+fn is_digit(radix: Radix, b: u8) -> bool
+    ensures { result ≡ digit_of radix b }
 {
-    (0x30 <= b) & (b <= 0x39)
-        | hex & ((0x41 <= b) & (b <= 0x46))
-        | hex & ((0x61 <= b) & (b <= 0x66))
+    match radix {
+        Radix::Decimal => b.is_ascii_digit(),
+        Radix::Hex => b.is_ascii_hexdigit(),
+    }
 }
 
 // What a digit stands for; the third test is for what is no digit, so that every byte has an answer.
+#[tactic(auto, using(crate::proofs::Digits::digit_values))]
 fn digit_value(b: u8) -> u8
     ensures { result ≡ digit_value b }
 {
-    if (0x30 <= b) & (b <= 0x39) {
-        return b - 0x30;
+    if b.is_ascii_digit() {
+        return b - b'0';
     }
     if (0x41 <= b) & (b <= 0x46) {
         return b - 0x37;
@@ -55,44 +58,43 @@ fn digit_value(b: u8) -> u8
 }
 
 // One digit more; a value past all code points stays there, so that no number of digits wraps it.
-fn add_digit(hex: bool, v: u32, d: u8) -> u32
-    ensures { min result past_points ≡ min (v * base hex + d) past_points }
+#[tactic(auto, using(crate::proofs::Digits::digit_sums))]
+fn add_digit(radix: Radix, v: u32, d: u8) -> u32
+    ensures { min result past_points ≡ min (v * base radix + d) past_points }
 {
     if PAST_POINTS <= v {
         return v;
     }
-    if hex {
-        return v * 16 + d as u32;
+    match radix {
+        Radix::Decimal => v * 10 + d as u32,
+        Radix::Hex => v * 16 + d as u32,
     }
-    v * 10 + d as u32
 }
 
 // No Char is at PAST_POINTS or further on, so a value is as good as any other there.
 fn stop(n: u32) -> u32
     ensures { result ≡ min n past_points }
 {
-    if n < PAST_POINTS {
-        return n;
-    }
-    PAST_POINTS
+    n.min(PAST_POINTS)
 }
 
-// The digits that stand first, any number of them, in one pass.
-fn read_digits(s: &[u8], at: usize, hex: bool) -> Digits
-    ensures { DigitsRead hex s.now at result.end result.value }
+// The digits that stand first, any number of them, in one pass. (A `for` over places has no end to answer where `at` is past the text.)
+#[tactic(auto, using(crate::proofs::Digits::digit_runs))]
+fn read_digits(s: &[u8], at: usize, radix: Radix) -> Digits
+    ensures { DigitsRead radix s.now at result.end result.value }
 {
     let mut i = at;
     let mut v: u32 = 0;
     while i < s.len() {
         let b = s[i];
-        if !is_digit(hex, b) {
+        if !is_digit(radix, b) {
             return Digits {
                 end: i,
                 value: stop(v),
             };
         }
         let d = digit_value(b);
-        v = add_digit(hex, v, d);
+        v = add_digit(radix, v, d);
         i += 1;
     }
     Digits {
@@ -101,89 +103,89 @@ fn read_digits(s: &[u8], at: usize, hex: bool) -> Digits
     }
 }
 
-// What follows "&#" or "&#x": a digit or more, then ';', and the value is that of a Char.
-fn check_digits(s: &[u8], at: usize, hex: bool) -> Reference
-    ensures { reference_said result at ≡ read (reference (base hex) (digit_of hex)) s.now at }
+// What follows "&#" or "&#x": a digit or more, then ';', and the value is that of a Char. It ends where a reference ends; what is wrong
+// with it is told without a place, since a place more to carry through the loop over digits makes references slower by a tenth.
+#[tactic(auto, using(crate::proofs::CharRefs::char_refs))]
+fn check_digits(s: &[u8], at: usize, radix: Radix) -> Result<usize, Refusal>
+    ensures { reference_said result at ≡ read (reference (base radix) (digit_of radix)) s.now at }
 {
-    let d = read_digits(s, at, hex);
+    let d = read_digits(s, at, radix);
     let end = d.end;
     if end == at {
-        return Reference::Bad(error::BAD_REFERENCE);
+        return Err(Refusal::BadReference);
     }
     if !at_keyword(s, end, b";") {
-        return Reference::Bad(error::BAD_REFERENCE);
+        return Err(Refusal::BadReference);
     }
     if is_xml_char(d.value) {
-        return Reference::Ends(end + 1);
+        return Ok(end + 1);
     }
-    Reference::Bad(error::ILLEGAL_REFERENCE)
+    Err(Refusal::IllegalReference)
 }
 
-// Production 66. Only a lower-case x introduces a hexadecimal reference.
-pub fn check_char_ref_at(s: &[u8], at: usize) -> Reference
+// Only a lower-case x introduces a hexadecimal reference.
+#[tactic(auto, using(crate::proofs::CharRefs::char_refs))]
+fn char_ref_end(s: &[u8], at: usize) -> Result<usize, Refusal>
     ensures { reference_said result at ≡ read char_ref s.now at }
 {
     if at_keyword(s, at, b"&#x") {
-        return check_digits(s, at + 3, true);
+        return check_digits(s, at + 3, Radix::Hex);
     }
     if at_keyword(s, at, b"&#") {
-        return check_digits(s, at + 2, false);
+        return check_digits(s, at + 2, Radix::Decimal);
     }
-    Reference::Bad(error::BAD_REFERENCE)
+    Err(Refusal::BadReference)
 }
 
-// A bad reference is refused where it begins.
-pub fn tell_reference(r: Reference, at: usize) -> Answer
-    ensures { said result ≡ reference_said r at }
+// Production 66. A bad reference is refused where it begins. (Inlined, the place stays with the caller.)
+#[inline(always)]
+#[tactic(auto, using(crate::proofs::CharRefs::char_refs))]
+pub fn check_char_ref_at(s: &[u8], at: usize) -> Answer
+    ensures { said result ≡ read char_ref s.now at }
 {
-    match r {
-        Reference::Ends(e) => Answer::At(e),
-        Reference::Bad(n) => Answer::No(n, at),
-    }
+    char_ref_end(s, at).map_err(|refusal| refusal.at(at))
 }
 
 // '&' without '#' goes unchecked.
+#[tactic(auto, using(crate::proofs::CharRefs::char_refs), unfolding(spec::specs::Reading::Wellformed::ref_or_byte))]
 fn ref_or_byte(s: &[u8], i: usize) -> Answer
     ensures { said result ≡ read ref_or_byte s.now i }
 {
     if at_keyword(s, i, b"&#") {
-        let r = check_char_ref_at(s, i);
-        return tell_reference(r, i);
+        return check_char_ref_at(s, i);
     }
-    next_byte(s, i)
+    Ok(next_byte(s, i))
+}
+
+// check_char_refs looks at '&', which is its mark.
+struct References;
+
+impl Rule for References {
+    ghost MARK = { 0x26 };
+
+    const MARK: u8 = b'&';
+
+    ghost reader = { ref_or_byte };
+
+    ghost steady = { steady_refs };
+
+    fn step(s: &[u8], at: usize) -> Answer {
+        ref_or_byte(s, at)
+    }
 }
 
 // The references from `at` on.
+#[tactic(auto, unfolding(spec::specs::Reading::Wellformed::check_char_refs))]
 pub fn walk_char_refs(text: &[u8], at: usize) -> Answer
     ensures { said result ≡ read check_char_refs text.now at }
 {
-    let mut i = at;
-    let mut calm: usize = 0;
-    while i < text.len() {
-        if is_special(b'&', text[i]) {
-            let r = ref_or_byte(text, i);
-            let Answer::At(j) = r else {
-                return r;
-            };
-            i = j;
-            calm = 0;
-            continue;
-        }
-        i += 1;
-        if calm < CALM {
-            calm += 1;
-            continue;
-        }
-        i = skip_blocks(text, i, b'&');
-        calm = 0;
-    }
-    Answer::At(i)
+    walk::<References>(text, at)
 }
 
-// check_char_refs on any bytes, without the two numbers that come first.
-pub fn char_refs_number(text: &[u8]) -> u8
-    ensures { result ≡ number_of (check_char_refs text.now) }
+// check_char_refs on any bytes, without the two refusals that come first; one call, as in every check (calls.rt).
+pub fn char_refs_admitted(text: &[u8]) -> Verdict
+    ensures { code result ≡ number_of (check_char_refs text.now) }
 {
-    let r = walk_char_refs(text, 0);
-    number(r)
+    walk_char_refs(text, 0)?;
+    Ok(())
 }

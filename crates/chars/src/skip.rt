@@ -11,6 +11,7 @@ const BLOCK: usize = 32;
 pub const CALM: usize = 16;
 
 // TEXT_SPECIAL and ATTR_SPECIAL by compares: '&' begins a reference, and the mark is the check's own.
+#[tactic(auto, using(crate::proofs::Bytes::bytes))]
 pub fn is_special(mark: u8, b: u8) -> bool
     ensures { result ≡ special mark b }
 {
@@ -18,6 +19,7 @@ pub fn is_special(mark: u8, b: u8) -> bool
 }
 
 // The place after a block without a special byte, or `at`. No test ends the loop, so that it becomes vector code.
+#[tactic(auto, using(search::proofs::Runs::passing))]
 fn past_block(s: &[u8], at: usize, mark: u8) -> usize
     ensures { Skipped (special mark) s.now at result }
 {
@@ -29,18 +31,17 @@ fn past_block(s: &[u8], at: usize, mark: u8) -> usize
     }
     let end = at + BLOCK;
     let mut found = false;
-    let mut i = at;
-    while i < end {
+    for i in at..end {
         found = found | is_special(mark, s[i]);
-        i += 1;
     }
     if found {
         return at;
     }
-    i
+    end
 }
 
-// The place after all such blocks from `at` on.
+// The place after all such blocks from `at` on. (A test of each block that answers yes or no, as in crate `search`, makes texts with many
+// references slower by 5 to 6 percent.)
 pub fn skip_blocks(s: &[u8], at: usize, mark: u8) -> usize
     ensures { Skipped (special mark) s.now at result }
 {

@@ -7,24 +7,23 @@ use borrow.Author.Rules.{rules}
 use lib.Dec.{eqb}
 use lib.ListN.{drop}
 use lib.Seq.{drop-drop}
+use Rattle.std.specs.Prelude.{Option, Some, None, MatchOption, Ok, Err}
 use Rattle.spec.specs.Grammar.Languages.{ascii, one_of}
 use Rattle.spec.specs.Reading.Checks.{is_version_num, parse_eq_quoted, check_declaration}
 use Rattle.spec.specs.Reading.Document.{is_declaration}
 use Rattle.spec.specs.Reading.Dtd.{require_s}
-use Rattle.spec.specs.Reading.Readers.{Result, ok, err, Reader, on_ok, past, ◌>>◌, starts, word}
+use Rattle.spec.specs.Reading.Readers.{Result, ok, err, Reader, on_ok, past, ◌>>◌, starts, word, begins}
 use Rattle.spec.specs.Reading.Refusals.{unexpected}
 use Rattle.spec.specs.Reading.Utf8.{decode1}
 use Rattle.spec.specs.Reading.Verdict.{read_version}
 use Rattle.spec.proofs.Base.Sequences.{then_then}
 use Rattle.spec.proofs.Base.Tests.{not-true, not-false}
-use Rattle.error.specs.Read.{Said, said, read, placed}
-use Rattle.error.specs.declared.Answer.{Answer}
-use Rattle.error.specs.declared.Answer.TheVariants.{At, No}
+use Rattle.error.specs.Read.{Said, said, read, placed, Answer}
+use Rattle.error.specs.declared.Fault.{Fault}
 use Rattle.error.proofs.Laws.{seq_no, seq_at}
 use Rattle.search.proofs.Words.{word_fits}
 use Rattle.utf8.specs.Seen.{seen}
 use Rattle.utf8.specs.declared.Point.{Point}
-use Rattle.utf8.specs.declared.Point.TheVariants.{Is, Not}
 use Rattle.utf8.proofs.Points.{begins_point, begins_none}
 use Rattle.checks.specs.Pieces.{after_version}
 
@@ -49,10 +48,10 @@ module _ (s : List ℕ) (at : ℕ) (r : Answer) (a : said r ≡ read read_versio
   unfolding read
   whole = ap (placed at) (by_version (drop at s))
 
-  pub version_no : (n k : ℕ) → r ≡ No n k → said r ≡ read check_declaration s at
-  version_no n k e = seq_no read_version after_version s at n k r a e ∙ whole
+  pub version_no : (x : Fault) → r ≡ Err x → said (Err x) ≡ read check_declaration s at
+  version_no x e = seq_no read_version after_version s at x r a e ∙ whole
 
-  pub version_at : (i : ℕ) (q : Said) → r ≡ At i → q ≡ read after_version s i → q ≡ read check_declaration s at
+  pub version_at : (i : ℕ) (q : Said) → r ≡ Ok i → q ≡ read after_version s i → q ≡ read check_declaration s at
   version_at i q e b = seq_at read_version after_version s at i r q a e b ∙ whole
 
 -- `among` ends with a test that always fails
@@ -65,16 +64,16 @@ module _ (s : List ℕ) (at : ℕ) (t : Bool) (a : t ≡ starts (ascii "<?xml") 
   unfolding is_declaration
   declared_no f = rw (sym a ∙ f)
 
-  module _ (f : t ≡ true) (p : Point) (b : seen p ≡ decode1 (drop (at + 5) s)) where
-    pub declared_none : p ≡ Not → false ≡ is_declaration (drop at s)
-    unfolding is_declaration
-    declared_none e = rw (sym a ∙ f, drop-drop) (begins_none s (at + 5) p b e (one_of " \t\r\n?"))
-
-    pub declared_by : (c k : ℕ) (x : Bool) → p ≡ Is c k → x ≡ one_of " \t\r\n?" c → x ≡ is_declaration (drop at s)
-    unfolding is_declaration
-    declared_by c k x e d = rw (sym a ∙ f, drop-drop) (begins_point s (at + 5) c k p b e (one_of " \t\r\n?") x d)
+  -- x is what the closure answers of the code point after it, or false where there is none
+  pub declared_is : (r : Option Point) (P : Point → Type 0) (x : Bool) → t ≡ true → seen r ≡ decode1 (drop (at + 5) s) → MatchOption r (x ≡ false) P → ((p : Point) → P p → x ≡ one_of " \t\r\n?" p.code) → x ≡ is_declaration (drop at s)
+  unfolding is_declaration
+  declared_is r P x f b m g = go r refl m ∙ (rw (sym a ∙ f, drop-drop))
+    where
+      go : (o : Option Point) → r ≡ o → MatchOption o (x ≡ false) P → x ≡ begins (one_of " \t\r\n?") (drop (at + 5) s)
+      go None e n = n ∙ begins_none s (at + 5) r b e (one_of " \t\r\n?")
+      go (Some p) e q = begins_point s (at + 5) r p b e (one_of " \t\r\n?") x (g p q)
 
 -- what the functions search
 pub ruleset versions = (version_no, version_at, rules)
 
-pub ruleset beginning = (target_signs, declared_no, declared_none, declared_by, word_fits, not-true, not-false, rules)
+pub ruleset beginning = (target_signs, declared_no, word_fits, not-true, not-false, rules)

@@ -1,55 +1,101 @@
 -- The tests of the XML declaration's values. Assumes nothing.
 use mathlib.Core.Path.{◌≡◌, refl, sym, ap, ◌∙◌}
-use mathlib.Core.Bool.{Bool, false, ◌&&◌, ◌||◌, or-false, or_assoc, and-false}
+use mathlib.Core.Bool.{Bool, true, false, ◌&&◌, not}
 use mathlib.Core.List.{List, [], ◌∷◌}
-use Prim.Native.Nat.{ℕ, ◌-◌, ◌<◌, ◌≤◌}
+use Prim.Native.Nat.compare
+use Prim.Native.Nat.{ℕ, suc, ◌-◌, ◌<◌, ◌≤◌}
 use native.Mathlib.Omega.{arith}
 use borrow.Author.Rules.{rules}
+use borrow.Author.Tests.{eqb-true, eqb-false}
 use lib.Dec.{eqb}
-use lib.ListN.{length, get_or, take, drop, length-drop}
+use lib.ListN.{length, get_or, take, drop}
+use lib.Pointwise.{pointwise}
+use Rattle.std.specs.List.{list_all}
+use Rattle.spec.specs.Basics.{pick}
 use Rattle.spec.specs.Grammar.Languages.{ascii}
 use Rattle.spec.specs.Grammar.References.{digit}
 use Rattle.spec.specs.Grammar.XmlDecl.{enc_char}
 use Rattle.spec.specs.Grammar.Characters.{latin_letter}
 use Rattle.spec.specs.Reading.Checks.{all_of, is_version_num, is_enc_name, is_yes_or_no}
-use Rattle.spec.specs.Reading.Readers.{starts}
+use Rattle.spec.specs.Reading.Readers.{starts, run}
 use Rattle.spec.proofs.Base.Places.{take_rest}
-use Rattle.spec.proofs.Base.Tests.{leb_yes, leb_no}
-use Rattle.cursor.proofs.Spaces.{class_go, all_not, all_passed}
-use Rattle.checks.specs.Values.{test_of}
-use Rattle.checks.specs.declared.values.Kind.{Kind}
+use Rattle.spec.proofs.Base.Tests.{leb_yes, leb_no, eqb_no}
 
--- `among` ends with a test that always fails
-pub enc_char_is : (b : ℕ) (l d : Bool) → l ≡ latin_letter b → d ≡ digit b → l || d || eqb b 46 || eqb b 95 || eqb b 45 ≡ enc_char b
-enc_char_is b l d e f = rw (e, f) (simp (or-false, or_assoc))
+-- what `all` says of a class is that the text is of it
+all_is : (p : ℕ → Bool) (w : List ℕ) → list_all p w ≡ all_of p w
+unfolding all_of run
+all_is p [] = refl
+all_is p (b ∷ w) = go (p b) (all_is p w)
+  where
+    go : (t : Bool) → list_all p w ≡ eqb (run p w) (length w) → (t && list_all p w) ≡ eqb (pick t (suc (run p w)) 0) (suc (length w))
+    go true e = e ∙ (rw compare.suc-suc)
+    go false e = sym (eqb_no 0 (suc (length w)) (λ (z : 0 ≡ suc (length w)). omega arith))
 
--- '1.' and a digit or more
-pub version_short : (v : List ℕ) → length v < 3 → false ≡ is_version_num v
-unfolding is_version_num
-version_short v h = sym (rw (length-drop 2 v, leb_no 1 (length v - 2) (omega arith)) (and-false (starts (ascii "1.") v)))
+-- what strip_prefix tests, and what `==` does
+front_is : (p w : List ℕ) → pointwise eqb (take (length p) w) p ≡ starts p w
+unfolding starts
+front_is [] w = refl
+front_is (a ∷ p) [] = refl
+front_is (a ∷ p) (b ∷ w) = ap (λ (t : Bool). eqb b a && t) (front_is p w)
 
-pub version_is : (v : List ℕ) (a b : Bool) → 3 ≤ length v → a ≡ starts (ascii "1.") v → b ≡ all_of digit (take (length v - 2) (drop 2 v)) → (a && b) ≡ is_version_num v
-unfolding is_version_num
-version_is v a b h e f = rw (e, f, take_rest v 2, length-drop 2 v, leb_yes 1 (length v - 2) (omega arith))
+same_is : (w p : List ℕ) → pointwise eqb w p ≡ (starts p w && eqb (length w) (length p))
+unfolding starts
+same_is [] [] = refl
+same_is [] (a ∷ p) = refl
+same_is (b ∷ w) [] = sym (eqb_no (suc (length w)) 0 (λ (z : suc (length w) ≡ 0). omega arith))
+same_is (b ∷ w) (a ∷ p) = go (eqb b a) (same_is w p)
+  where
+    go : (t : Bool) → pointwise eqb w p ≡ (starts p w && eqb (length w) (length p)) → (t && pointwise eqb w p) ≡ ((t && starts p w) && eqb (suc (length w)) (suc (length p)))
+    go true e = e ∙ (rw compare.suc-suc)
+    go false e = refl
 
--- a letter, and what may follow it
-pub enc_none : (w : List ℕ) → length w ≡ 0 → false ≡ is_enc_name w
+-- '1.' and a digit or more: t whether it begins so, d what follows
+module _ (v : List ℕ) (t : Bool) (a : pointwise eqb (take 2 v) (ascii "1.") ≡ t) where
+  begins : starts (ascii "1.") v ≡ t
+  begins = sym (front_is (ascii "1.") v) ∙ a
+
+  pub version_none : t ≡ false → false ≡ is_version_num v
+  unfolding is_version_num
+  version_none f = sym (rw (begins ∙ f))
+
+  module _ (y : t ≡ true) (d : List ℕ) (e : d ≡ drop 2 v) (n : Bool) (f : n ≡ eqb (length d) 0) where
+    pub version_bare : n ≡ true → not n ≡ is_version_num v
+    unfolding is_version_num
+    version_bare g =
+        let z : length d ≡ 0 = eqb-true (length d) 0 (sym f ∙ g) in
+        rw (begins ∙ y, ← e, leb_no 1 (length d) (omega arith), g)
+
+    pub version_is : (r : Bool) → n ≡ false → r ≡ list_all digit d → r ≡ is_version_num v
+    unfolding is_version_num
+    version_is r g h =
+        let z = eqb-false (length d) 0 (sym f ∙ g) in
+        h ∙ all_is digit d ∙ (rw (begins ∙ y, ← e, leb_yes 1 (length d) (omega arith)))
+
+-- a letter, and what may follow it: a whether a letter stands first
+pub enc_none : (w : List ℕ) → length w < 1 → false ≡ is_enc_name w
 unfolding is_enc_name
 enc_none [] h = refl
 enc_none (b ∷ w) h = absurd (omega arith)
 
-pub enc_is : (w : List ℕ) (a b : Bool) → (length w ≡ 0 → ⊥) → a ≡ latin_letter (get_or w 0 0) → b ≡ all_of enc_char (take (length w - 1) (drop 1 w)) → (a && b) ≡ is_enc_name w
+pub enc_not : (w : List ℕ) (a : Bool) → 1 ≤ length w → a ≡ latin_letter (get_or w 0 0) → a ≡ false → a ≡ is_enc_name w
 unfolding is_enc_name
-enc_is [] a b h e f = absurd (h refl)
-enc_is (x ∷ w) a b h e f = rw (e, f ∙ ap (all_of enc_char) (take_rest (x ∷ w) 1))
+enc_not [] a h e f = absurd (omega arith)
+enc_not (b ∷ w) a h e f = f ∙ (rw (sym e ∙ f))
 
-pub yes_no_is : (v : List ℕ) (a b : Bool) → a ≡ starts (ascii "yes") v → b ≡ starts (ascii "no") v → (a && eqb (length v) 3 || b && eqb (length v) 2) ≡ is_yes_or_no v
-unfolding is_yes_or_no
-yes_no_is v a b e f = rw (e, f)
+pub enc_is : (w : List ℕ) (a r : Bool) → 1 ≤ length w → a ≡ latin_letter (get_or w 0 0) → a ≡ true → r ≡ list_all enc_char (take (length w - 1) (drop 1 w)) → r ≡ is_enc_name w
+unfolding is_enc_name
+enc_is [] a r h e f g = absurd (omega arith)
+enc_is (b ∷ w) a r h e f g = g ∙ ap (list_all enc_char) (take_rest (b ∷ w) 1) ∙ all_is enc_char w ∙ (rw (sym e ∙ f))
 
--- the test of a kind
-pub test_kind : (kind k : Kind) (v : List ℕ) (r : Bool) → kind ≡ k → r ≡ test_of k v → r ≡ test_of kind v
-test_kind kind k v r e a = rw (e, a)
+-- 'yes' or 'no': a whether it is the first
+module _ (v : List ℕ) (a : Bool) (e : a ≡ pointwise eqb v (ascii "yes")) where
+  pub yes_is : a ≡ true → a ≡ is_yes_or_no v
+  unfolding is_yes_or_no
+  yes_is f = f ∙ (rw (sym (same_is v (ascii "yes")) ∙ sym e ∙ f))
+
+  pub no_is : (r : Bool) → a ≡ false → r ≡ pointwise eqb v (ascii "no") → r ≡ is_yes_or_no v
+  unfolding is_yes_or_no
+  no_is r f g = g ∙ same_is v (ascii "no") ∙ (rw (sym (same_is v (ascii "yes")) ∙ sym e ∙ f))
 
 -- what the tests search
-pub ruleset valuing = (enc_char_is, class_go, all_not, all_passed, version_short, version_is, enc_none, enc_is, yes_no_is, test_kind, rules)
+pub ruleset valuing = (version_none, version_bare, enc_none, enc_not, yes_is, no_is, rules)

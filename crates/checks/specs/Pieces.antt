@@ -1,23 +1,23 @@
 -- Pieces of check_declaration that functions of their own read. Assumes nothing.
-use Rattle.std.specs.Prelude.{Bool, List, ℕ, ◌+◌, ◌-◌, drop}
+use Rattle.std.specs.Prelude.{Bool, List, ℕ, ◌+◌, ◌-◌, drop, Result, Ok, Err}
 use Rattle.spec.specs.Grammar.Characters.{space}
 use Rattle.spec.specs.Reading.Checks.{is_enc_name, is_yes_or_no, parse_eq_quoted, pseudo_attr}
 use Rattle.spec.specs.Reading.Dtd.{skip_s, require_s, parse_quoted}
 use Rattle.spec.specs.Reading.Readers.{Reader, ◌>>◌, nothing, at_end, starts, choose, word, word_of, run}
-use Rattle.spec.specs.Reading.Refusals.{unexpected, trailing}
-use Rattle.error.specs.Read.{Said, passed, refused, read}
-use Rattle.checks.specs.declared.declaration.Quoted.{Quoted}
-use Rattle.checks.specs.declared.declaration.Quoted.TheVariants.{Value, Refused}
+use Rattle.spec.specs.Reading.Refusals.{Refusal, unexpected, trailing}
+use Rattle.error.specs.Read.{Said, passed, refused, reason, read}
+use Rattle.error.specs.declared.Fault.{Fault}
+use Rattle.source.specs.declared.Span.{Span}
 
--- what is said of a value: its two ends; or a number of the table of docs/SCOPE.md, and the place where it is met
+-- what is said of a value: its two ends; or a refusal, and the place where it is met
 pub data ValueSaid : Type 0 where
   spans : ℕ → ℕ → ValueSaid
-  stops : ℕ → ℕ → ValueSaid
+  stops : Refusal → ℕ → ValueSaid
 
--- what each case of Quoted says
-unfoldable pub quoted_said : Quoted → ValueSaid
-quoted_said (Value v) = spans v.start v.end
-quoted_said (Refused n k) = stops n k
+-- what parse_eq_quoted answers says
+unfoldable pub quoted_said : Result Span Fault → ValueSaid
+quoted_said (Ok v) = spans v.start v.end
+quoted_said (Err x) = stops (reason x.refusal) x.place
 
 -- the text between the quotes of a literal, from its opening quote and what was read of it
 abbrev pub between : ℕ → Said → ValueSaid

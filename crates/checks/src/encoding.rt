@@ -7,11 +7,12 @@ ghost use Rattle.spec.specs.Reading.Verdict.{read_encoding};
 ghost use Rattle.error.specs.Read.{said, read};
 
 use cursor::{eat_str, require_s, skip_s};
-use error::{Answer, UNEXPECTED};
+use error::{Answer, Refusal};
 use search::at_keyword;
-use utf8::{Point, code_point};
+use utf8::code_point;
 
 // White space or '?', one of which stands after the name "xml".
+#[tactic(auto, using(crate::proofs::Chaining::beginning))]
 fn ends_target(c: u32) -> bool
     ensures { result ≡ one_of " \t\r\n?" c }
 {
@@ -19,35 +20,21 @@ fn ends_target(c: u32) -> bool
 }
 
 // An XML declaration begins here, and not an instruction whose target only begins with "xml".
+#[tactic(auto, using(crate::proofs::Chaining::beginning))]
 pub fn is_declaration(s: &[u8], at: usize) -> bool
     ensures { result ≡ is_declaration (drop at s.now) }
 {
-    if !at_keyword(s, at, b"<?xml") {
-        return false;
-    }
-    let p = code_point(s, at + 5);
-    let Point::Is(c, _) = p else {
-        return false;
-    };
-    ends_target(c)
+    at_keyword(s, at, b"<?xml") && code_point(s, at + 5).is_some_and(|p| ends_target(p.code))
 }
 
 // [80] EncodingDecl up to its quote mark: S 'encoding' Eq
+#[tactic(auto, using(cursor::proofs::Reading::reading), unfolding(spec::specs::Reading::Verdict::read_encoding))]
 pub fn parse_encoding_eq(s: &[u8], at: usize) -> Answer
     ensures { said result ≡ read read_encoding s.now at }
 {
-    let r = require_s(s, at);
-    let Answer::At(i) = r else {
-        return r;
-    };
-    let r = eat_str(s, i, b"encoding", UNEXPECTED);
-    let Answer::At(i) = r else {
-        return r;
-    };
+    let i = require_s(s, at)?;
+    let i = eat_str(s, i, b"encoding", Refusal::Unexpected)?;
     let i = skip_s(s, i);
-    let r = eat_str(s, i, b"=", UNEXPECTED);
-    let Answer::At(i) = r else {
-        return r;
-    };
-    Answer::At(skip_s(s, i))
+    let i = eat_str(s, i, b"=", Refusal::Unexpected)?;
+    Ok(skip_s(s, i))
 }

@@ -6,6 +6,6 @@ mod encoding;
 mod values;
 
 pub use declaration::{
-    check_declaration, check_declaration_at, declaration_at, declaration_number, parse_version,
+    check_declaration, check_declaration_at, declaration_admitted, declaration_at, parse_version,
 };
 pub use encoding::{is_declaration, parse_encoding_eq};

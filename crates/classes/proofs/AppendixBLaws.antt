@@ -8,7 +8,6 @@ use Rattle.spec.specs.Basics.{within}
 use Rattle.spec.specs.Grammar.AppendixB.{base_chars, ideographs, combining, digits, extenders, start_char, part_char}
 use Rattle.spec.specs.Grammar.Ranges.{in_table}
 use Rattle.spec.proofs.Base.Tests.{eqb_no, or_elim}
-use Rattle.spec.proofs.Characters.AppendixB.{tables_ascend}
 use Rattle.spec.proofs.Characters.Ranges.{spans, spans_in}
 use Rattle.classes.specs.Classes.{letter, common_letter}
 use Rattle.classes.proofs.RangeLaws.{beyond}
@@ -35,17 +34,12 @@ module _ (c : ℕ) where
   pub letter_common : (r : Bool) → r ≡ common_letter c → r ≡ true → true ≡ letter c
   letter_common r e y = sym (common_is (sym e ∙ y))
 
-  pub letter_base : (r : Bool) → r ≡ in_table base_chars c → r ≡ true → true ≡ letter c
-  unfolding letter
-  letter_base r e y = rw (sym e ∙ y)
-
-  pub letter_rest : (b r : Bool) → b ≡ in_table base_chars c → b ≡ false → r ≡ in_table ideographs c → r ≡ letter c
-  unfolding letter
-  letter_rest b r e n f = f ∙ (rw (sym e ∙ n))
-
   pub letter_beyond : 0xFFFF < c → false ≡ letter c
   unfolding letter
-  letter_beyond h = let (base_up, ideographs_up, _, _, _) = tables_ascend in rw (beyond base_chars c 201 base_up refl (omega arith), beyond ideographs c 2 ideographs_up refl (omega arith))
+  letter_beyond h = rw (beyond base_chars c refl h, beyond ideographs c refl h)
+
+  pub marks_beyond : 0xFFFF < c → false ≡ (in_table digits c || in_table combining c || in_table extenders c)
+  marks_beyond h = rw (beyond digits c refl h, beyond combining c refl h, beyond extenders c refl h)
 
 -- [4] NameStartChar and NameChar from 128 on, test by test
 module _ (c : ℕ) (high : 128 ≤ c) where
@@ -60,26 +54,11 @@ module _ (c : ℕ) (high : 128 ≤ c) where
   unfolding part_char
   part_high = rw (← start_high, no_sign 0x2D (omega arith), no_sign 0x2E (omega arith), or-false)
 
-  module _ (l : Bool) (is : l ≡ letter c) where
-    pub part_letter : l ≡ true → true ≡ part_char c
-    part_letter y = (rw (sym is ∙ y)) ∙ part_high
+  pub part_letter : (l : Bool) → l ≡ letter c → l ≡ true → true ≡ part_char c
+  part_letter l e y = (rw (sym e ∙ y)) ∙ part_high
 
-    module _ (not : l ≡ false) where
-      pub part_beyond : 0xFFFF < c → false ≡ part_char c
-      part_beyond h =
-          let (_, _, combining_up, digits_up, extenders_up) = tables_ascend in
-          (rw (sym is ∙ not, beyond digits c 14 digits_up refl (omega arith), beyond combining c 94 combining_up refl (omega arith), beyond extenders c 10 extenders_up refl (omega arith))) ∙ part_high
-
-      module _ (d : Bool) (is_digit : d ≡ in_table digits c) where
-        pub part_digit : d ≡ true → true ≡ part_char c
-        part_digit y = (rw (sym is ∙ not, sym is_digit ∙ y)) ∙ part_high
-
-        module _ (no_digit : d ≡ false) (m : Bool) (is_combining : m ≡ in_table combining c) where
-          pub part_combining : m ≡ true → true ≡ part_char c
-          part_combining y = (rw (sym is ∙ not, sym is_digit ∙ no_digit, sym is_combining ∙ y)) ∙ part_high
-
-          pub part_rest : (x : Bool) → m ≡ false → x ≡ in_table extenders c → x ≡ part_char c
-          part_rest x n e = e ∙ (rw (sym is ∙ not, sym is_digit ∙ no_digit, sym is_combining ∙ n)) ∙ part_high
+  pub part_mark : (l r : Bool) → l ≡ letter c → l ≡ false → r ≡ (in_table digits c || in_table combining c || in_table extenders c) → r ≡ part_char c
+  part_mark l r e n f = f ∙ (rw (sym e ∙ n)) ∙ part_high
 
 -- what its functions search
-pub ruleset appendix_b_laws = (letter_common, letter_base, letter_rest, letter_beyond, part_letter, part_beyond, part_digit, part_combining, part_rest)
+pub ruleset appendix_b_laws = (letter_common, part_letter, part_mark)

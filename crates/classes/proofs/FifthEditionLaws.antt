@@ -2,30 +2,21 @@
 use mathlib.Core.Path.{◌≡◌, refl, sym, ◌∙◌}
 use mathlib.Core.Bool.{Bool, true, false, ◌||◌}
 use Prim.Native.Nat.{ℕ, ◌<◌}
-use native.Mathlib.Omega.{arith}
 use Rattle.spec.specs.Basics.{within}
 use Rattle.spec.specs.Grammar.FifthEdition.{name_start_chars, added_chars, name_start_char, name_char}
-use Rattle.spec.specs.Grammar.Ranges.{in_table, ascending}
+use Rattle.spec.specs.Grammar.Ranges.{in_table}
 use Rattle.spec.proofs.Base.Tests.{or_elim, or_false_left}
-use Rattle.spec.proofs.Characters.FifthEdition.{fifth_edition_ascends}
 use Rattle.spec.proofs.Characters.Ranges.{spans, spans_in}
 use Rattle.classes.specs.Classes.{wide_ranges, low_starts}
 use Rattle.classes.proofs.RangeLaws.{beyond}
 
 module _ (c : ℕ) where
   -- what the tables have: nothing from 2^16 on
-  pub rare_beyond : 0xFFFF < c → false ≡ in_table low_starts c
-  unfolding ascending
-  rare_beyond h = sym (beyond low_starts c 14 refl refl (omega arith))
+  pub starts_beyond : 0xFFFF < c → false ≡ in_table low_starts c
+  starts_beyond h = sym (beyond low_starts c refl h)
 
-  pub rare_char_beyond : 0xFFFF < c → false ≡ (in_table low_starts c || in_table added_chars c)
-  rare_char_beyond h = let (_, up) = fifth_edition_ascends in rw (sym (rare_beyond h), beyond added_chars c 5 up refl (omega arith))
-
-  pub rare_start : (s : Bool) → s ≡ in_table low_starts c → s ≡ true → true ≡ (in_table low_starts c || in_table added_chars c)
-  rare_start s e y = rw (sym e ∙ y)
-
-  pub rare_added : (s r : Bool) → s ≡ in_table low_starts c → s ≡ false → r ≡ in_table added_chars c → r ≡ (in_table low_starts c || in_table added_chars c)
-  rare_added s r e n f = f ∙ (rw (sym e ∙ n))
+  pub chars_beyond : 0xFFFF < c → false ≡ (in_table low_starts c || in_table added_chars c)
+  chars_beyond h = rw (beyond low_starts c refl h, beyond added_chars c refl h)
 
   -- [4] NameStartChar: in one of the wide ranges, or, outside the last range, in the table of the others
   range_of_starts : (lo hi : ℕ) → spans name_start_chars lo hi ≡ true → within lo hi c ≡ true → name_start_char c ≡ true
@@ -67,4 +58,4 @@ module _ (c : ℕ) where
     char_rest r n e = e ∙ (rw (starts_rest n))
 
 -- what its functions search
-pub ruleset fifth_edition_laws = (rare_beyond, rare_char_beyond, rare_start, rare_added, start_wide, start_rest, char_wide, char_rest)
+pub ruleset fifth_edition_laws = (start_wide, start_rest, char_wide, char_rest)

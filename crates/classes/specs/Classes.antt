@@ -1,5 +1,5 @@
 -- The name classes that a reader uses, and the parts of them that the code tests first. Assumes nothing.
-use Rattle.std.specs.Prelude.{Bool, ◌||◌, List, ℕ, eqb, take}
+use Rattle.std.specs.Prelude.{Bool, ◌||◌, List, [], ◌∷◌, ℕ, eqb, take}
 use Rattle.spec.specs.Basics.{within}
 use Rattle.spec.specs.Grammar.Names.{Dialect}
 use Rattle.spec.specs.Grammar.AppendixB.{appendix_b, base_chars, ideographs}
@@ -11,6 +11,11 @@ use Rattle.classes.specs.declared.Names.TheVariants.{AppendixB, FifthEdition}
 unfoldable pub dialect : Names → Dialect
 dialect AppendixB = appendix_b
 dialect FifthEdition = fifth_edition
+
+-- the ends of the ranges of a table, first and last of each in turn
+abbrev pub ends : List (ℕ × ℕ) → List ℕ
+ends [] = []
+ends ((first, last) ∷ rest) = first ∷ last ∷ ends rest
 
 -- [84] Letter ::= BaseChar | Ideographic
 unfoldable pub letter : ℕ → Bool

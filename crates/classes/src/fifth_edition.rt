@@ -8,67 +8,46 @@ use crate::ranges::in_ranges;
 use crate::tables::{ADDED, NAME_START};
 
 // The two widest ranges of NameStartChar and the one from 2^16 on, which no table of 16 bits has: a quick yes for most scripts. The
-// compiler tests the last of these first, so the range of Greek and its neighbours stands there.
+// compiler tests the last of these first, so the range of Greek and its neighbours stands there. As a matches! of these ranges it takes
+// 10 percent more instructions at Greek, 25 at Han.
 fn in_wide_range(c: u32) -> bool
     ensures { result ≡ wide_ranges c }
 {
     (0x10000 <= c) & (c <= 0xEFFFF) | (0x3001 <= c) & (c <= 0xD7FF) | (0x37F <= c) & (c <= 0x1FFF)
 }
 
-// The ranges of NameStartChar below 2^16.
-fn is_low_start(c: u16) -> bool
-    ensures { result ≡ in_table low_starts c }
-{
-    in_ranges(&NAME_START, c)
-}
-
-// What NameChar adds.
-fn is_added(c: u16) -> bool
-    ensures { result ≡ in_table added_chars c }
-{
-    in_ranges(&ADDED, c)
-}
-
 // What the tables have of either class. These two are functions of their own, so that the quick test alone is put into the loop over a
-// name's characters.
-fn rare_start(c: u32) -> bool
+// name's characters; each is its tables, so one function over tables would only be their list again.
+#[inline(never)]
+fn is_rare_start(c: u32) -> bool
     ensures { result ≡ in_table low_starts c }
 {
-    if 0xFFFF < c {
+    let Ok(d) = u16::try_from(c) else {
         return false;
-    }
-    is_low_start(c as u16)
+    };
+    in_ranges(&NAME_START, d)
 }
 
-fn rare_char(c: u32) -> bool
+#[inline(never)]
+fn is_rare_char(c: u32) -> bool
     ensures { result ≡ (in_table low_starts c || in_table added_chars c) }
 {
-    if 0xFFFF < c {
+    let Ok(d) = u16::try_from(c) else {
         return false;
-    }
-    let d = c as u16;
-    if is_low_start(d) {
-        return true;
-    }
-    is_added(d)
+    };
+    in_ranges(&NAME_START, d) || in_ranges(&ADDED, d)
 }
 
 // [4] NameStartChar
 pub fn fifth_start(c: u32) -> bool
     ensures { result ≡ name_start_char c }
 {
-    if in_wide_range(c) {
-        return true;
-    }
-    rare_start(c)
+    in_wide_range(c) || is_rare_start(c)
 }
 
 // [4a] NameChar
 pub fn fifth_char(c: u32) -> bool
     ensures { result ≡ name_char c }
 {
-    if in_wide_range(c) {
-        return true;
-    }
-    rare_char(c)
+    in_wide_range(c) || is_rare_char(c)
 }

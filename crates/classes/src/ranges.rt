@@ -1,26 +1,17 @@
-// Tables of range ends.
-ghost use Rattle.std.specs.Prelude.{◌≡◌, true, ◌+◌};
+// Tables of ranges.
+ghost use Rattle.std.specs.Prelude.{◌≡◌, true};
 ghost use Rattle.spec.specs.Grammar.Ranges.{in_table, ascending};
+ghost use Rattle.classes.specs.Classes.{ends};
 
 // Whether x lies in a range of the table: the first range that does not end below x decides. By halves, since a table has up to
 // 202 ranges.
-pub(crate) fn in_ranges(t: &[u16], x: u16) -> bool
-    requires { ascending t.now ≡ true }
-    ensures { result ≡ in_table t.now x }
+pub(crate) fn in_ranges(table: &[(u16, u16)], x: u16) -> bool
+    requires { ascending (ends table.now) ≡ true }
+    ensures { result ≡ in_table (ends table.now) x }
 {
-    let n = t.len() / 2;
-    let mut lo: usize = 0;
-    let mut hi = n;
-    while lo < hi {
-        let mid = lo + (hi - lo) / 2;
-        if t[2 * mid + 1] < x {
-            lo = mid + 1;
-        } else {
-            hi = mid;
-        }
+    let i = table.partition_point(|&(_, last)| last < x);
+    match table.get(i) {
+        Some(&(first, _)) => first <= x,
+        None => false,
     }
-    if lo < n {
-        return t[2 * lo] <= x;
-    }
-    false
 }

@@ -1,55 +1,80 @@
-// The program's output, and what it says of a call of the system that failed.
-use crate::bytes;
-use std::fmt;
-use std::io::{Error, Print};
+// The program's output, and what it says of what failed.
+use crate::files::Source;
+use std::alloc::AllocError;
+use std::fmt::{Display, InlineText};
+use std::io::{Eprint, Print};
+use std::{fmt, io};
 
-// Writes to standard output in one piece.
-pub fn write_out(rt: &HostRuntime, part: &[u8]) -> Result<(), Error> {
-    rt.stdout().write_all(part)
+// How a failure names standard output, and the program.
+pub const OUTPUT: &str = "standard output";
+
+pub const PROGRAM: &str = "moxkeldi";
+
+// So much room is made for a report: more than most take, so that the room need not grow.
+const ROOM: usize = 65536;
+
+// What stands behind the system's words for an error: its number, which only a programmer would look up.
+const CODE: &str = " (os error ";
+
+// Why a file has no verdict, or one that nobody hears of.
+#[derive(Clone, Copy)]
+pub enum Failure {
+    File(io::Error),
+    Output(io::Error),
 }
 
-// Writes to standard error. Where that fails there is nobody to tell.
-pub fn complain(rt: &HostRuntime, part: &[u8]) {
-    let _ = rt.stderr().write_all(part);
+impl Failure {
+    pub fn tell(self, rt: &HostRuntime, source: &Source) {
+        match self {
+            Failure::File(error) => fail(rt, source, error),
+            Failure::Output(error) => fail(rt, OUTPUT, error),
+        }
+    }
+}
+
+impl From<io::Error> for Failure {
+    fn from(error: io::Error) -> Failure {
+        Failure::File(error)
+    }
+}
+
+// Standard output. A report is put together first, so that it takes one write.
+#[derive(Drop)]
+pub struct Output<'a> {
+    rt: &'a HostRuntime,
+    report: String,
+}
+
+impl<'a> Output<'a> {
+    pub fn new(rt: &'a HostRuntime) -> Result<Output<'a>, AllocError> {
+        let report = String::with_capacity(rt.alloc(), ROOM)?;
+        Ok(Output { rt, report })
+    }
+
+    pub fn say<D: Display + Drop>(&mut self, what: D) -> Result<(), Failure> {
+        self.report.clear();
+        write!(self.report, "{what}").map_err(io::Error::from)?;
+        self.rt
+            .write_all(self.report.as_bytes())
+            .map_err(Failure::Output)
+    }
+}
+
+// Writes a line to standard error. Where that fails there is nobody to tell.
+pub fn complain<D: Display + Drop>(rt: &HostRuntime, what: D) {
+    let _ = rt.eprintln(what);
 }
 
 // Says on standard error what failed, and why.
-pub fn fail(rt: &HostRuntime, what: &[u8], error: Error) {
-    let mut words = Words {
-        held: [0; 256],
-        len: 0,
-    };
-    let _ = fmt::Write::write(&mut words, error);
-    let reason = without_code(bytes::front(&words.held, words.len));
-    complain(rt, what);
-    complain(rt, b": ");
-    complain(rt, reason);
-    complain(rt, b"\n");
+pub fn fail<D: Display + Drop>(rt: &HostRuntime, what: D, error: io::Error) {
+    let words = InlineText::<256>::of(error);
+    let reason = without_code(words.as_str());
+    complain(rt, format_args!("{what}: {reason}"));
 }
 
-// An error's words. What does not fit is left out.
-#[derive(Drop)]
-struct Words {
-    held: [u8; 256],
-    len: usize,
-}
-
-impl fmt::Write for Words {
-    fn write_str(&mut self, s: &str) -> fmt::Result {
-        self.len = bytes::append(&mut self.held, self.len, s.as_bytes());
-        Ok(())
+fn without_code(words: &str) -> &str {
+    match words.split_once(CODE) {
+        Some((reason, _)) => reason,
+        None => words,
     }
-}
-
-// What stands behind the system's words for an error: its number, which only a programmer would look up.
-const CODE: &[u8; 11] = b" (os error ";
-
-fn without_code(words: &[u8]) -> &[u8] {
-    for i in 0..words.len() {
-        let end = bytes::forth(words, i, CODE.len());
-        if bytes::same(bytes::between(words, i, end), CODE) {
-            return bytes::front(words, i);
-        }
-    }
-    words
 }

@@ -1,31 +1,19 @@
-// Files whose names are not UTF-8. The library opens only names that are, so the script that starts the program makes a link to such a file,
-// named by the argument's number, in a folder that this variable of the environment names.
-use crate::bytes;
-use std::env::Env;
+// Files whose names are not UTF-8. The library opens only names that are, so the script that starts the program makes a link to such a
+// file, named by the argument's number, in a folder that this variable of the environment names.
+use std::env::VarError;
 use std::fs::File;
-use std::io::{Error, ErrorKind};
-use std::{fs, str};
+use std::{env, fs, io};
 
 const FOLDER: &str = "MOXKELDI_LINKS";
 
-// Opens the file that argument `i` names.
-pub fn open(rt: &HostRuntime, i: usize) -> Result<File, Error> {
-    let mut path = [0u8; 4096];
-    let n = match rt.var(FOLDER, &mut path) {
-        Ok(n) => n,
-        Err(_) => return Err(unnamed()),
-    };
-    let n = bytes::put(&mut path, n, b'/');
-    let n = bytes::decimal(&mut path, n, i as u64);
-    match str::from_utf8(bytes::front(&path, n)) {
-        Ok(link) => fs::open(rt, link),
-        Err(_) => Err(unnamed()),
+// Opens the file that argument `number` names.
+pub fn open(rt: &HostRuntime, number: usize) -> io::Result<File> {
+    match env::var(rt, FOLDER) {
+        Ok(folder) => fs::open(rt, format!(in rt.alloc(); "{folder}/{number}")?.as_str()),
+        Err(VarError::OutOfMemory) => Err(io::Error::from(io::ErrorKind::OutOfMemory)),
+        Err(VarError::NotPresent | VarError::NotUnicode) => Err(io::Error::new(
+            io::ErrorKind::InvalidInput,
+            "its name is not UTF-8, and the script moxkeldi has made no link to it",
+        )),
     }
-}
-
-fn unnamed() -> Error {
-    Error::new(
-        ErrorKind::InvalidInput,
-        "its name is not UTF-8, and the script moxkeldi has made no link to it",
-    )
 }

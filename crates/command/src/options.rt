@@ -1,44 +1,9 @@
-// The arguments that are options. They may stand before, between and after the files, and count for all of them.
-use crate::bytes;
+// The arguments. Options may stand before, between and after the files, and count for all of them.
+use crate::files::{INPUT, Source};
+use crate::{usage, words};
 use classes::Names;
+use std::alloc::AllocError;
 use std::env::{Env, FillError};
-
-// What an argument is.
-#[derive(Clone, Copy)]
-pub enum Word {
-    File,
-    // `-`: standard input.
-    Input,
-    Verbose,
-    Quiet,
-    Help,
-    Version,
-    Numbers,
-    // `--fifth-edition`.
-    Fifth,
-    // `--`: every argument after it is a file.
-    End,
-    Unknown,
-}
-
-#[derive(Clone, Copy)]
-pub struct Options {
-    pub verbose: bool,
-    pub quiet: bool,
-    pub help: bool,
-    pub version: bool,
-    pub numbers: bool,
-    pub fifth: bool,
-    // Whether standard input is asked for, and whether a second time: it can be read only once.
-    pub input: bool,
-    pub twice: bool,
-    // The last unknown option, by its place among the arguments; 0 where there is none.
-    pub unknown: usize,
-    // The last file, likewise.
-    pub file: usize,
-    // Whether a `--` has come.
-    pub ended: bool,
-}
 
 // By which names files are judged, and how much is said of them.
 #[derive(Clone, Copy)]
@@ -48,140 +13,110 @@ pub struct Manner {
     pub verbose: bool,
 }
 
-pub fn manner_of(options: Options) -> Manner {
-    let names = if options.fifth {
-        Names::FifthEdition
-    } else {
-        Names::AppendixB
-    };
-    Manner {
-        names,
-        quiet: options.quiet,
-        verbose: options.verbose,
+// A text that an option asks for. Where several are asked for, the one named last here is printed.
+#[derive(Clone, Copy, PartialEq, Eq, PartialOrd, Ord)]
+enum Text {
+    Numbers,
+    Version,
+    Help,
+}
+
+impl Text {
+    fn words(self) -> &'static str {
+        match self {
+            Text::Numbers => words::TABLE,
+            Text::Version => usage::VERSION,
+            Text::Help => usage::HELP,
+        }
     }
 }
 
-// A `-` alone is standard input, also after `--`: a file of that name is `./-`.
-pub fn kind(word: &[u8], ended: bool) -> Word {
-    if utf8::byte_at(word, 0) != b'-' {
-        return Word::File;
-    }
-    if word.len() == 1 {
-        return Word::Input;
-    }
-    if ended {
-        return Word::File;
-    }
-    if word.len() == 2 {
-        return short(utf8::byte_at(word, 1));
-    }
-    long(word)
+// What the arguments ask for.
+pub enum Request {
+    Print(&'static str),
+    Check(Manner),
 }
 
-fn long(word: &[u8]) -> Word {
-    if bytes::same(word, b"--help") {
-        return Word::Help;
-    }
-    if bytes::same(word, b"--version") {
-        return Word::Version;
-    }
-    if bytes::same(word, b"--numbers") {
-        return Word::Numbers;
-    }
-    if bytes::same(word, b"--fifth-edition") {
-        return Word::Fifth;
-    }
-    Word::Unknown
+// Why they cannot be understood.
+#[derive(Clone, Copy)]
+pub enum Misuse<'a> {
+    Unknown(&'a [u8]),
+    NoFile,
+    // Standard input can be read only once.
+    InputTwice,
 }
 
-// The option of a hyphen and this sign.
-fn short(sign: u8) -> Word {
-    match sign {
-        b'v' => Word::Verbose,
-        b'q' => Word::Quiet,
-        b'h' => Word::Help,
-        b'-' => Word::End,
-        _ => Word::Unknown,
-    }
+#[derive(Drop)]
+pub struct Options {
+    pub sources: Vec<Source>,
+    manner: Manner,
+    text: Option<Text>,
+    // The last unknown option.
+    unknown: Option<Vec<u8>>,
+    // Whether `--` has come: every argument after it is a file.
+    ended: bool,
 }
 
-// How many arguments there are, the program's own name the first of them. Each is read into `word`, and one that is too long counts too.
-pub fn count(rt: &HostRuntime, word: &mut [u8]) -> usize {
-    for i in 0..usize::MAX {
-        if let Err(FillError::NotPresent) = rt.arg(i, word) {
-            return i;
+impl Options {
+    // Reads all arguments but the program's own name. One that is too long is a file.
+    pub fn read(rt: &HostRuntime) -> Result<Options, AllocError> {
+        let mut options = Options {
+            sources: Vec::new(rt.alloc()),
+            manner: Manner {
+                names: Names::AppendixB,
+                quiet: false,
+                verbose: false,
+            },
+            text: None,
+            unknown: None,
+            ended: false,
+        };
+        // No path is longer, and the library fills a buffer that it is lent.
+        let mut buffer = [0u8; 4096];
+        for number in 1..usize::MAX {
+            match rt.arg(number, &mut buffer) {
+                Ok(n) => options.take(rt, number, &buffer[..n])?,
+                Err(FillError::TooLong) => options.sources.push(Source { number, name: None })?,
+                Err(FillError::NotPresent) => break,
+            }
         }
+        Ok(options)
     }
-    usize::MAX
-}
 
-// Argument `i`, read into `word`: empty where it is too long.
-pub fn argument<'a>(rt: &HostRuntime, i: usize, word: &'a mut [u8]) -> &'a [u8] {
-    match rt.arg(i, word) {
-        Ok(n) => bytes::front(word, n),
-        Err(_) => bytes::front(word, 0),
+    // A `-` alone is standard input, also after `--`: a file of that name is `./-`.
+    fn take(&mut self, rt: &HostRuntime, number: usize, word: &[u8]) -> Result<(), AllocError> {
+        if self.ended || word == INPUT || !word.starts_with(b"-") {
+            let name = Some(Vec::from_slice(rt.alloc(), word)?);
+            self.sources.push(Source { number, name })?;
+            return Ok(());
+        }
+        match word {
+            b"-v" => self.manner.verbose = true,
+            b"-q" => self.manner.quiet = true,
+            b"--fifth-edition" => self.manner.names = Names::FifthEdition,
+            b"-h" | b"--help" => self.text = self.text.max(Some(Text::Help)),
+            b"--version" => self.text = self.text.max(Some(Text::Version)),
+            b"--numbers" => self.text = self.text.max(Some(Text::Numbers)),
+            b"--" => self.ended = true,
+            _ => self.unknown = Some(Vec::from_slice(rt.alloc(), word)?),
+        }
+        Ok(())
     }
-}
 
-// Reads all arguments, each into `word`.
-pub fn read(rt: &HostRuntime, word: &mut [u8]) -> Options {
-    let count = count(rt, word);
-    let mut options = Options {
-        verbose: false,
-        quiet: false,
-        help: false,
-        version: false,
-        numbers: false,
-        fifth: false,
-        input: false,
-        twice: false,
-        unknown: 0,
-        file: 0,
-        ended: false,
-    };
-    let mut i = 1;
-    while i < count {
-        options = next(options, i, argument(rt, i, word));
-        i += 1;
+    pub fn request(&self) -> Result<Request, Misuse<'_>> {
+        if let Some(word) = &self.unknown {
+            return Err(Misuse::Unknown(word.as_slice()));
+        }
+        if let Some(text) = self.text {
+            return Ok(Request::Print(text.words()));
+        }
+        if self.sources.is_empty() {
+            return Err(Misuse::NoFile);
+        }
+        let inputs = self.sources.iter().filter(|source| source.is_input());
+        if inputs.count() > 1 {
+            return Err(Misuse::InputTwice);
+        }
+        Ok(Request::Check(self.manner))
     }
-    options
-}
-
-fn next(before: Options, i: usize, word: &[u8]) -> Options {
-    let mut options = before;
-    match kind(word, before.ended) {
-        Word::File => {
-            options.file = i;
-        }
-        Word::Input => {
-            options.file = i;
-            options.twice = before.twice | before.input;
-            options.input = true;
-        }
-        Word::Verbose => {
-            options.verbose = true;
-        }
-        Word::Quiet => {
-            options.quiet = true;
-        }
-        Word::Help => {
-            options.help = true;
-        }
-        Word::Version => {
-            options.version = true;
-        }
-        Word::Numbers => {
-            options.numbers = true;
-        }
-        Word::Fifth => {
-            options.fifth = true;
-        }
-        Word::End => {
-            options.ended = true;
-        }
-        Word::Unknown => {
-            options.unknown = i;
-        }
-    }
-    options
 }

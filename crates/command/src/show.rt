@@ -1,123 +1,66 @@
 // A line of a text, with its number, and a caret under a place of it.
-use crate::{bytes, escape};
+ghost use Rattle.std.specs.Prelude.{◌≤◌, length};
+
+use crate::escape::{Blank, Tabbed};
+use std::fmt;
 
 // At most so many bytes of a line are shown before a place, and after it.
 const SHOWN: usize = 120;
 
 // What is left out of a long line.
-const CUT: [u8; 3] = *b"...";
+const CUT: &str = "...";
 
-// Puts the line of the place `at`, which has the number `line`, and a caret under the place; answers the place after them.
-pub fn put_line(out: &mut [u8], to: usize, text: &[u8], at: usize, line: usize) -> usize {
-    let start = start_of(text, at);
-    let cut = !begins_line(text, start);
-    let before = bytes::between(text, start, at);
-    let n = up_to_place(out, to, line, cut, before, false);
-    let n = rest_of_line(out, n, bytes::rest(text, at));
-    let n = bytes::put(out, n, b'\n');
-    let n = up_to_place(out, n, line, cut, before, true);
-    bytes::append(out, n, b"^\n")
+// The line of the place `at`, which has the number `line`.
+#[derive(Clone, Copy)]
+pub struct Shown<'a> {
+    pub text: &'a [u8],
+    pub at: usize,
+    pub line: usize,
 }
 
-// What stands before the place, or blanks as wide.
-fn up_to_place(
-    out: &mut [u8],
-    to: usize,
-    line: usize,
-    cut: bool,
-    before: &[u8],
-    blank: bool,
-) -> usize {
-    let n = gutter(out, to, line, blank);
-    let n = cut_mark(out, n, cut, blank);
-    escape::put(out, n, before, blank)
-}
-
-// The line's number and a bar, or as many blanks and a bar.
-fn gutter(out: &mut [u8], to: usize, line: usize, blank: bool) -> usize {
-    let n = bytes::append(out, to, b"  ");
-    let n = line_number(out, n, line, blank);
-    bytes::append(out, n, b" | ")
-}
-
-fn line_number(out: &mut [u8], to: usize, line: usize, blank: bool) -> usize {
-    if blank {
-        let mut digits = [0u8; 20];
-        return escape::blanks(out, to, io::decimal(line as u64, &mut digits));
+impl fmt::Display for Shown<'_> {
+    fn fmt<W: fmt::Write>(&self, f: &mut fmt::Formatter<W>) -> fmt::Result {
+        let line = self.line;
+        let (before, after) = self.text.split_at(self.at.min(self.text.len()));
+        let (front, before) = end_of_line(before);
+        let (after, back) = rest_of_line(after);
+        let before = Tabbed(before);
+        writeln!(f, "  {line} | {front}{before}{}{back}", Tabbed(after))?;
+        writeln!(f, "  {} | {}{}^", Blank(line), Blank(front), Blank(before))
     }
-    bytes::decimal(out, to, line as u64)
 }
 
-fn cut_mark(out: &mut [u8], to: usize, cut: bool, blank: bool) -> usize {
-    if !cut {
-        return to;
+// The line that a text ends in, or as much of it as is shown, and before it what stands for what is left out.
+fn end_of_line(text: &[u8]) -> (&'static str, &[u8]) {
+    let (far, near) = text.split_at(text.len().saturating_sub(SHOWN));
+    let split = tail_length(near);
+    let shown = &near[split..];
+    if let Some(i) = shown.iter().rposition(|b| ends_line(*b)) {
+        return ("", &shown[i + 1..]);
     }
-    if blank {
-        return escape::blanks(out, to, CUT.len());
-    }
-    bytes::append(out, to, &CUT)
+    let is_cut = split > 0 || far.last().is_some_and(|b| !ends_line(*b));
+    (if is_cut { CUT } else { "" }, shown)
 }
 
-// Where the line of the place begins, or as far before the place as is shown, at a character's first byte.
-fn start_of(text: &[u8], at: usize) -> usize {
-    let mut start = whole_character(text, bytes::back(at, SHOWN), at);
-    let mut i = start;
-    while i < text.len() {
-        if at <= i {
-            return start;
-        }
-        let b = text[i];
-        i += 1;
-        if ends_line(b) {
-            start = i;
-        }
+// The line that a text begins with, or as much of it as is shown, and what stands for what is left out.
+fn rest_of_line(text: &[u8]) -> (&[u8], &'static str) {
+    let end = text.iter().position(|b| ends_line(*b));
+    let line = &text[..end.unwrap_or(text.len())];
+    if line.len() <= SHOWN {
+        return (line, "");
     }
-    start
+    (&line[..SHOWN + tail_length(&line[SHOWN..])], CUT)
 }
 
-// The first place from `from` on, before `to`, at which a character begins: at most three bytes go on with one.
-fn whole_character(text: &[u8], from: usize, to: usize) -> usize {
-    let mut i = from;
-    while i < text.len() {
-        let b = text[i];
-        if (to <= i) | (b < 0x80) | (0xBF < b) {
-            return i;
-        }
-        i += 1;
-    }
-    i
-}
-
-fn begins_line(text: &[u8], start: usize) -> bool {
-    if start == 0 {
-        return true;
-    }
-    ends_line(utf8::byte_at(text, bytes::back(start, 1)))
-}
-
-// From the place to the end of its line, or as much as is shown.
-fn rest_of_line(out: &mut [u8], to: usize, rest: &[u8]) -> usize {
-    let end = line_end(rest);
-    if end <= SHOWN {
-        return escape::put(out, to, bytes::front(rest, end), false);
-    }
-    let cut = whole_character(rest, SHOWN, end);
-    let n = escape::put(out, to, bytes::front(rest, cut), false);
-    bytes::append(out, n, &CUT)
-}
-
-fn line_end(rest: &[u8]) -> usize {
-    let mut i = 0;
-    while i < rest.len() {
-        if ends_line(rest[i]) {
-            return i;
-        }
-        i += 1;
-    }
-    i
+// How many bytes in front go on with a character that began before them: at most three of a character do.
+fn tail_length(text: &[u8]) -> usize
+    ensures { result ≤ length text.now }
+{
+    let begins = text.iter().position(|b| !matches!(*b, 0x80..=0xBF));
+    begins.unwrap_or(text.len())
 }
 
 // A carriage return ends a line too, alone or before a line feed.
 fn ends_line(b: u8) -> bool {
-    (b == b'\n') | (b == b'\r')
+    b == b'\n' || b == b'\r'
 }

@@ -1,42 +1,15 @@
 // How the command is called.
-use crate::console::{complain, write_out};
-use crate::{bytes, escape};
-use std::io::Error;
+use crate::escape::Escaped;
+use crate::options::Misuse;
+use std::fmt;
 
 // On standard error, for a call that cannot be understood.
-pub fn wrong(rt: &HostRuntime) {
-    complain(
-        rt,
-        b"usage: moxkeldi [-q | -v] [--fifth-edition] FILE...    (- is standard input; --help says more)\n",
-    );
-}
+const USAGE: &str =
+    "usage: moxkeldi [-q | -v] [--fifth-edition] FILE...    (- is standard input; --help says more)";
 
-// The same, for an option that is not known.
-pub fn unknown(rt: &HostRuntime, out: &mut [u8], word: &[u8]) {
-    let n = bytes::append(out, 0, b"moxkeldi: unknown option ");
-    let n = escape::put_name(out, n, word);
-    let n = bytes::put(out, n, b'\n');
-    complain(rt, bytes::front(out, n));
-    wrong(rt);
-}
+pub const VERSION: &str = "moxkeldi 0.3.0\n";
 
-// The same, for standard input that is asked for twice.
-pub fn twice(rt: &HostRuntime) {
-    complain(
-        rt,
-        b"moxkeldi: - is given twice, and standard input can be read only once\n",
-    );
-    wrong(rt);
-}
-
-pub fn version(rt: &HostRuntime) -> Result<(), Error> {
-    write_out(rt, b"moxkeldi 0.3.0\n")
-}
-
-pub fn help(rt: &HostRuntime) -> Result<(), Error> {
-    write_out(
-        rt,
-        b"usage: moxkeldi [-q | -v] [--fifth-edition] FILE...
+pub const HELP: &str = "usage: moxkeldi [-q | -v] [--fifth-edition] FILE...
 
 Checks the prolog of each XML file: the XML declaration, comments,
 instructions and the DOCTYPE with its declarations, up to the root element.
@@ -64,6 +37,20 @@ Entities are not expanded, and what follows the root's name is not looked at.
 
 Exit status: 0 all accepted; 1 one or more refused; 2 a file could not be read,
 or wrong usage.
-",
-    )
+";
+
+impl fmt::Display for Misuse<'_> {
+    fn fmt<W: fmt::Write>(&self, f: &mut fmt::Formatter<W>) -> fmt::Result {
+        match self {
+            Misuse::Unknown(word) => {
+                let word = Escaped(word);
+                write!(f, "moxkeldi: unknown option {word}\n{USAGE}")
+            }
+            Misuse::NoFile => write!(f, "{USAGE}"),
+            Misuse::InputTwice => write!(
+                f,
+                "moxkeldi: - is given twice, and standard input can be read only once\n{USAGE}"
+            ),
+        }
+    }
 }

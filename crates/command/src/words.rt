@@ -1,12 +1,9 @@
 // The numbers in words, as the bindings have them.
-use crate::bytes;
-use crate::console::write_out;
-use std::io::Error;
 
-// A row for each number, in their order: the number in two places, two spaces, and its words. It is one text, and no arm of a `match` for
-// each number, since a function is proved in a time that grows with the square of its arms.
-const TABLE: [u8; 1026] =
-    *b" 1  longer than 1,048,576 bytes, or a prolog that goes on beyond what is held
+// A row for each number, in their order: the number in two places, two spaces, and its words. It is one text, since
+// --numbers prints it whole: a Display of Refusal would need a list of all refusals beside it to print the same.
+pub const TABLE: &str =
+    " 1  longer than 1,048,576 bytes, or a prolog that goes on beyond what is held
  2  not UTF-8, or another encoding is named
  3  white space is required
  4  a name, a token or a target is bad or missing
@@ -28,39 +25,11 @@ const TABLE: [u8; 1026] =
 20  more than 64 open groups in a content model
 21  the declaration is not first, or the DOCTYPE is a second one or not in the prolog
 ";
-
 // So many bytes of a row stand before its words.
 const COLUMN: usize = 4;
 
-pub fn table(rt: &HostRuntime) -> Result<(), Error> {
-    write_out(rt, &TABLE)
-}
-
-// Puts the words for a number at `at`, and answers the place after them.
-pub fn put(out: &mut [u8], at: usize, number: u8) -> usize {
-    bytes::append(out, at, row(&TABLE, number as usize))
-}
-
-// The words in row `number`, without the newline. Of a row that is not there they would begin after their end, so there are none.
-fn row(table: &[u8], number: usize) -> &[u8] {
-    let start = after_rows(table, bytes::back(number, 1));
-    let end = after_rows(table, number);
-    bytes::between(
-        table,
-        bytes::forth(table, start, COLUMN),
-        bytes::back(end, 1),
-    )
-}
-
-// The place after the first `count` rows, or the end of the table.
-fn after_rows(table: &[u8], count: usize) -> usize {
-    let mut rows = 0;
-    let mut at = 0;
-    while at < table.len() && rows < count {
-        if table[at] == b'\n' {
-            rows += 1;
-        }
-        at += 1;
-    }
-    at
+// The words for a number; none where it has no row.
+pub fn of(number: u8) -> Option<&'static str> {
+    let row = usize::from(number).checked_sub(1)?;
+    TABLE.lines().nth(row)?.get(COLUMN..)
 }

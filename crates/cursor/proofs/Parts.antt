@@ -8,20 +8,19 @@ use borrow.Author.Rules.{rules}
 use mir.Syntax.{w64}
 use mir.Val.{Fits}
 use lib.ListN.{length, take, drop, length-drop}
+use Rattle.std.specs.Prelude.{Option, Some, None, Ok, Err}
 use Rattle.spec.specs.Grammar.Languages.{ascii}
 use Rattle.spec.specs.Grammar.Names.{Dialect}
-use Rattle.spec.specs.Reading.Refusals.{number, bad_name, has_colon}
+use Rattle.spec.specs.Reading.Refusals.{bad_name, has_colon}
 use Rattle.spec.specs.Reading.Readers.{ok, err, before}
 use Rattle.spec.specs.Reading.Wellformed.{name, name_length}
 use Rattle.spec.specs.Reading.Dtd.{ncname}
 use Rattle.spec.proofs.Wellformed.LongestName.{name_within, name_read, name_unread, parts_ok}
-use Rattle.error.specs.Read.{said, read}
-use Rattle.error.specs.declared.Answer.TheVariants.{At, No}
+use Rattle.error.specs.Read.{said, read, refused}
+use Rattle.error.specs.declared.Fault.{Fault}
 use Rattle.spec.proofs.Agreement.Words.{before_within}
 use Rattle.search.specs.FirstPlace.{first_place}
 use Rattle.search.specs.Places.{found}
-use Rattle.search.specs.declared.places.Found.{Found}
-use Rattle.search.specs.declared.places.Found.TheVariants.{Here, Nowhere}
 use Rattle.search.proofs.Finding.{was_nowhere, was_here, places_found}
 use Rattle.names.specs.NamePart.{NamePart}
 use Rattle.names.proofs.PlaceLaws.{part_length}
@@ -37,20 +36,20 @@ module _ (D : Dialect) (s p : List ℕ) (at : ℕ) (n : NamePart D (drop at s) p
     no_part : name D (drop at s) ≡ err bad_name 0
     no_part = name_unread D (drop at s) (sym size ∙ z)
 
-    pub name_no : (m : ℕ) → m ≡ number bad_name → said (No m at) ≡ read (name D) s at
-    unfolding read said
-    name_no m e = rw (no_part, e, add-zero)
+    pub name_no : (x : Fault) → said (Err x) ≡ refused bad_name at → said (Err x) ≡ read (name D) s at
+    unfolding read
+    name_no x e = e ∙ (rw (no_part, add-zero))
 
-    pub ncname_no : (m : ℕ) → m ≡ number bad_name → said (No m at) ≡ read (ncname D) s at
-    unfolding read said ncname
-    ncname_no m e = rw (no_part, e, add-zero)
+    pub ncname_no : (x : Fault) → said (Err x) ≡ refused bad_name at → said (Err x) ≡ read (ncname D) s at
+    unfolding read ncname
+    ncname_no x e = e ∙ (rw (no_part, add-zero))
 
   -- and else what the reader takes
   module _ (z : length p ≡ 0 → ⊥) where
     a_part : name D (drop at s) ≡ ok (length p)
     a_part = name_read D (drop at s) (λ y. z (size ∙ y)) ∙ ap ok (sym size)
 
-    pub name_yes : said (At (at + length p)) ≡ read (name D) s at
+    pub name_yes : said (Ok (at + length p)) ≡ read (name D) s at
     unfolding read said
     name_yes = rw a_part
 
@@ -61,14 +60,14 @@ module _ (D : Dialect) (s p : List ℕ) (at : ℕ) (n : NamePart D (drop at s) p
     same_part = n.part ∙ (rw size)
 
     -- the first colon in it, as r says
-    module _ (r : Found) (e : found r ≡ first_place (ascii ":") p 0) where
-      module _ (j : ℕ) (y : r ≡ Here j) where
-        pub ncname_colon : (m : ℕ) → m ≡ number has_colon → said (No m (at + j)) ≡ read (ncname D) s at
-        unfolding read said ncname
-        ncname_colon m f =
+    module _ (r : Option ℕ) (e : found r ≡ first_place (ascii ":") p 0) where
+      module _ (j : ℕ) (y : r ≡ Some j) where
+        pub ncname_colon : (x : Fault) → said (Err x) ≡ refused has_colon (at + j) → said (Err x) ≡ read (ncname D) s at
+        unfolding read ncname
+        ncname_colon x f =
             let (c, l) = was_here (ascii ":") p 0 r e j y in
             let z : j ≡ before (ascii ":") p = omega arith in
-            rw (a_part, ← same_part, c, f, z)
+            f ∙ (rw (a_part, ← same_part, c, z))
 
         pub colon_fits : length s < 2 ^ 64 → Fits w64 (at + j)
         colon_fits h =
@@ -78,7 +77,7 @@ module _ (D : Dialect) (s p : List ℕ) (at : ℕ) (n : NamePart D (drop at s) p
             let k = size in
             omega arith
 
-      pub ncname_yes : r ≡ Nowhere → said (At (at + length p)) ≡ read (ncname D) s at
+      pub ncname_yes : r ≡ None → said (Ok (at + length p)) ≡ read (ncname D) s at
       unfolding read said ncname
       ncname_yes y = rw (a_part, ← same_part, was_nowhere (ascii ":") p 0 r e y)
 

@@ -12,21 +12,19 @@ use mir.Syntax.{w64}
 use mir.Val.{Fits}
 use lib.Dec.{eqb, ltb}
 use lib.ListN.{length, get_or, take, drop, length-drop}
+use Rattle.std.specs.Prelude.{Option, Some, None, Ok, Err}
 use Rattle.spec.specs.Basics.{pick}
-use Rattle.spec.specs.Reading.Refusals.{Refusal, number, no_literal, unterminated}
+use Rattle.spec.specs.Reading.Refusals.{Refusal, no_literal, unterminated}
 use Rattle.spec.specs.Reading.Readers.{Result, ok, err, Reader, on_ok, past, ◌>>◌, nothing, refuse, starts, choose, on, word_of, contains, before, up_to}
 use Rattle.spec.specs.Reading.Dtd.{parse_quoted}
 use Rattle.spec.proofs.Base.Tests.{decide, eqb-true, or_cases, or_false_left, or_false_right}
 use Rattle.spec.proofs.Base.Places.{drop_at, drop_end}
 use Rattle.spec.proofs.Agreement.Words.{before_within}
-use Rattle.error.specs.Read.{passed, refused, said, placed, read}
-use Rattle.error.specs.declared.Answer.{Answer}
-use Rattle.error.specs.declared.Answer.TheVariants.{At, No}
+use Rattle.error.specs.Read.{passed, refused, said, placed, read, Answer}
+use Rattle.error.specs.declared.Fault.{Fault}
 use Rattle.error.proofs.Laws.{passed≢refused, passed_inj, was_ok, was_err}
 use Rattle.search.specs.FirstPlace.{first_place}
 use Rattle.search.specs.Places.{found}
-use Rattle.search.specs.declared.places.Found.{Found}
-use Rattle.search.specs.declared.places.Found.TheVariants.{Here, Nowhere}
 use Rattle.search.proofs.Finding.{was_nowhere, was_here, places_found}
 use Rattle.cursor.proofs.Reading.{left_of}
 
@@ -60,19 +58,19 @@ module _ (check : List ℕ → Result) where
       go (inr f) = rw (eqb-true b 39 f) (ap (past 1) (picked (contains (39 ∷ []) w) _ _ w))
 
 -- No literal at a place.
-module _ (check : List ℕ → Result) (s : List ℕ) (at m : ℕ) where
-  pub literal_none : length s ≤ at → m ≡ number no_literal → said (No m at) ≡ read (parse_quoted check) s at
-  unfolding read said
-  literal_none h e = rw (drop_end s at h, quoted_none check, e, add-zero)
+module _ (check : List ℕ → Result) (s : List ℕ) (at : ℕ) (x : Fault) where
+  pub literal_none : length s ≤ at → said (Err x) ≡ refused no_literal at → said (Err x) ≡ read (parse_quoted check) s at
+  unfolding read
+  literal_none h e = e ∙ (rw (drop_end s at h, quoted_none check, add-zero))
 
   module _ (h : at < length s) where
-    pub literal_other : quote (get_or s at 0) ≡ false → m ≡ number no_literal → said (No m at) ≡ read (parse_quoted check) s at
-    unfolding read said
-    literal_other n e = rw (drop_at s at h, quoted_other check (get_or s at 0) (drop (at + 1) s) n, e, add-zero)
+    pub literal_other : quote (get_or s at 0) ≡ false → said (Err x) ≡ refused no_literal at → said (Err x) ≡ read (parse_quoted check) s at
+    unfolding read
+    literal_other n e = e ∙ (rw (drop_at s at h, quoted_other check (get_or s at 0) (drop (at + 1) s) n, add-zero))
 
-    pub literal_open : (r : Found) → quote (get_or s at 0) ≡ true → found r ≡ first_place (get_or s at 0 ∷ []) s (at + 1) → r ≡ Nowhere → m ≡ number unterminated → said (No m (at + 1)) ≡ read (parse_quoted check) s at
-    unfolding read said
-    literal_open r y f l g = rw (drop_at s at h, quoted_mark check (get_or s at 0) (drop (at + 1) s) y, was_nowhere (get_or s at 0 ∷ []) s (at + 1) r f l, g)
+    pub literal_open : (r : Option ℕ) → quote (get_or s at 0) ≡ true → found r ≡ first_place (get_or s at 0 ∷ []) s (at + 1) → r ≡ None → said (Err x) ≡ refused unterminated (at + 1) → said (Err x) ≡ read (parse_quoted check) s at
+    unfolding read
+    literal_open r y f l g = g ∙ (rw (drop_at s at h, quoted_mark check (get_or s at 0) (drop (at + 1) s) y, was_nowhere (get_or s at 0 ∷ []) s (at + 1) r f l))
 
 -- A literal from `at` to e.
 pub record Literal (s : List ℕ) (at e : ℕ) : Type 0 where
@@ -96,7 +94,7 @@ literal_whole : (s : List ℕ) (at e : ℕ) → Literal s at e → passed e ≡ 
 unfolding nothing
 literal_whole s at e l = ap passed (let k : e ≡ at + (1 + (e - at - 1)) = omega (arith, l.ends) in k) ∙ sym (literal_read nothing s at e l)
 
-pub literal_closed : (s : List ℕ) (at e : ℕ) (r : Found) → at < length s → quote (get_or s at 0) ≡ true → found r ≡ first_place (get_or s at 0 ∷ []) s (at + 1) → r ≡ Here e → said (At (e + 1)) ≡ read (parse_quoted nothing) s at
+pub literal_closed : (s : List ℕ) (at e : ℕ) (r : Option ℕ) → at < length s → quote (get_or s at 0) ≡ true → found r ≡ first_place (get_or s at 0 ∷ []) s (at + 1) → r ≡ Some e → said (Ok (e + 1)) ≡ read (parse_quoted nothing) s at
 unfolding said
 literal_closed s at e r h y f l = let (c, d) = was_here (get_or s at 0 ∷ []) s (at + 1) r f e l in literal_whole s at (e + 1) (record { inside = h; opens = y; closes = c; ends = rw d })
 
@@ -120,12 +118,12 @@ quoted s at = by_place (decide (ltb at (length s)))
     by_place (inl h) = by_mark (ltb-true at (length s) h) (decide (quote (get_or s at 0)))
     by_place (inr h) = none no_literal 0 (λ check. rw (drop_end s at (ltb-false at (length s) h)) (quoted_none check))
 
-refused_all : (check : List ℕ → Result) (s : List ℕ) (at : ℕ) (n : Refusal) (k : ℕ) → ((check : List ℕ → Result) → parse_quoted check (drop at s) ≡ err n k) → read (parse_quoted check) s at ≡ refused (number n) (at + k)
+refused_all : (check : List ℕ → Result) (s : List ℕ) (at : ℕ) (n : Refusal) (k : ℕ) → ((check : List ℕ → Result) → parse_quoted check (drop at s) ≡ err n k) → read (parse_quoted check) s at ≡ refused n (at + k)
 unfolding read
 refused_all check s at n k f = rw (f check)
 
 -- The text of a literal, whose end e parse_quoted gave: its ends, and a check of it. For any check.
-module _ (e : ℕ) (r : Answer) (b : r ≡ At e) (s : List ℕ) (at : ℕ) (a : said r ≡ read (parse_quoted nothing) s at) where
+module _ (e : ℕ) (r : Answer) (b : r ≡ Ok e) (s : List ℕ) (at : ℕ) (a : said r ≡ read (parse_quoted nothing) s at) where
   literal : Literal s at e
   unfolding said
   literal = go (quoted s at)
@@ -154,26 +152,26 @@ module _ (e : ℕ) (r : Answer) (b : r ≡ At e) (s : List ℕ) (at : ℕ) (a : 
     the_text : drop (at + 1) (take (e - 1 - 0) (drop 0 s)) ≡ take (e - 1 - (at + 1)) (drop (at + 1) s)
     the_text = left_of (at + 1) (e - 1) s
 
-    pub text_taken : (i : ℕ) → c ≡ At i → said (At e) ≡ read (parse_quoted check) s at
+    pub text_taken : (i : ℕ) → c ≡ Ok i → said (Ok e) ≡ read (parse_quoted check) s at
     unfolding said
     text_taken i z =
         let (j, (f, _)) = was_ok check (take (e - 1 - 0) (drop 0 s)) (at + 1) i c n z in
         let k : e ≡ at + (1 + (e - at - 1)) = omega (arith, literal.ends) in
         ap passed k ∙ (rw (literal_read check s at e literal, ← the_text, f))
 
-    pub text_refused : (m i : ℕ) → c ≡ No m i → said c ≡ read (parse_quoted check) s at
-    text_refused m i z =
-        let (r, (j, (f, g))) = was_err check (take (e - 1 - 0) (drop 0 s)) (at + 1) m i c n z in
-        g ∙ ap (refused (number r)) (add_assoc at 1 j) ∙ (rw (literal_read check s at e literal, ← the_text, f))
+    pub text_refused : (x : Fault) → c ≡ Err x → said (Err x) ≡ read (parse_quoted check) s at
+    text_refused x z =
+        let (r, (j, (f, g))) = was_err check (take (e - 1 - 0) (drop 0 s)) (at + 1) x c n z in
+        g ∙ ap (refused r) (add_assoc at 1 j) ∙ (rw (literal_read check s at e literal, ← the_text, f))
 
 -- what is no literal has no text to check
-pub text_none : (check : List ℕ → Result) (s : List ℕ) (at k i : ℕ) (r : Answer) → said r ≡ read (parse_quoted nothing) s at → r ≡ No k i → said r ≡ read (parse_quoted check) s at
+pub text_none : (check : List ℕ → Result) (s : List ℕ) (at : ℕ) (x : Fault) (r : Answer) → said r ≡ read (parse_quoted nothing) s at → r ≡ Err x → said (Err x) ≡ read (parse_quoted check) s at
 unfolding said
-text_none check s at k i r a b = go (quoted s at)
+text_none check s at x r a b = go (quoted s at)
   where
-    go : Quoted s at → said r ≡ read (parse_quoted check) s at
+    go : Quoted s at → said (Err x) ≡ read (parse_quoted check) s at
     go (is e l) = absurd (passed≢refused (literal_whole s at e l ∙ sym a ∙ ap said b))
-    go (none n k f) = a ∙ refused_all nothing s at n k f ∙ sym (refused_all check s at n k f)
+    go (none n k f) = sym (ap said b) ∙ a ∙ refused_all nothing s at n k f ∙ sym (refused_all check s at n k f)
 
 -- what parse_quoted searches, and what checks the text of a literal
 pub ruleset quotes = (literal_none, literal_other, literal_open, literal_closed, places_found, rules)

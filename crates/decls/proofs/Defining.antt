@@ -6,6 +6,7 @@ use Prim.Native.Nat.{ℕ, ◌<◌}
 use native.Mathlib.Omega.{arith}
 use borrow.Author.Tests.{eqb-false}
 use lib.Dec.{eqb}
+use Rattle.std.specs.Prelude.{Ok}
 use Rattle.spec.specs.Basics.{pick}
 use Rattle.spec.specs.Grammar.Names.{Dialect}
 use Rattle.spec.specs.Reading.Refusals.{Refusal, no_space}
@@ -14,9 +15,7 @@ use Rattle.spec.specs.Reading.Dtd.{skip_s, require_s, parse_att_def}
 use Rattle.spec.proofs.Base.Loops.{Somes}
 use Rattle.spec.proofs.Base.Results.{err_ok, ok_inj}
 use Rattle.spec.proofs.Base.Somes.{some_then}
-use Rattle.error.specs.Read.{said, read}
-use Rattle.error.specs.declared.Answer.{Answer}
-use Rattle.error.specs.declared.Answer.TheVariants.{At}
+use Rattle.error.specs.Read.{said, read, Answer}
 use Rattle.cursor.proofs.Reading.{skip_only}
 use Rattle.decls.specs.Pieces.{more_left}
 use Rattle.error.proofs.Whiles.{whiles}
@@ -43,7 +42,7 @@ unfolding parse_att_def require_s
 some_att_def D = some_then (required no_space skip_s) _ (some_required no_space skip_s)
 
 -- what a turn of the loop answered
-pub turn_at : (R : Reader) (s : List ℕ) (i j : ℕ) (r : Answer) → r ≡ At j → said r ≡ read R s i → said (At j) ≡ read R s i
+pub turn_at : (R : Reader) (s : List ℕ) (i j : ℕ) (r : Answer) → r ≡ Ok j → said r ≡ read R s i → said (Ok j) ≡ read R s i
 turn_at R s i j r e a = sym (ap said e) ∙ a
 
 pub ruleset defining = (left_ends, some_att_def, turn_at, skip_only, whiles)

@@ -1,101 +1,54 @@
--- Keywords from a table: their bytes one after the other, and their lengths. Assumes nothing.
+-- Keywords from a table. Assumes nothing.
 use mathlib.Core.Path.{◌≡◌, refl, sym, ap, ◌∙◌}
 use mathlib.Core.Logic.{◌⊎◌, inl, inr}
 use mathlib.Core.Bool.{Bool, true, false}
-use mathlib.Core.List.{List, [], ◌∷◌, ◌++◌}
-use Prim.Native.Nat.{ℕ, ◌+◌, ◌-◌, ◌<◌, ◌≤◌}
+use mathlib.Core.List.{List, [], ◌∷◌}
+use Prim.Native.Nat.{ℕ, ◌+◌, ◌<◌, ◌≤◌}
 use Prim.Native.String.{String}
-use native.Mathlib.Omega.{arith}
 use borrow.Author.Rules.{rules}
-use lib.ListN.{length, get_or, take, drop}
-use lib.Seq.{drop-drop}
-use mir.Syntax.{w64}
-use mir.Val.{Fits}
+use lib.ListN.{length, get_or, drop, drop_of_length-le}
+use lib.Seq.{drop-cons}
+use native.Mathlib.Numerals.{add-one}
+use Rattle.std.specs.Borrow.{Bor}
+use Rattle.std.specs.Prelude.{Ok, Err}
 use Rattle.spec.specs.Grammar.Languages.{ascii}
-use Rattle.spec.specs.Reading.Refusals.{Refusal, number, unexpected}
+use Rattle.spec.specs.Reading.Refusals.{Refusal, unexpected}
 use Rattle.spec.specs.Reading.Readers.{ok, Reader, refuse, starts, choose, on, word_of}
-use Rattle.spec.specs.Reading.Dtd.{tokenized, word_among}
-use Rattle.spec.proofs.Base.Places.{drop_at, drop_end}
-use Rattle.error.specs.Read.{Said, said, placed, read, eaten}
-use Rattle.error.specs.declared.Answer.{Answer}
-use Rattle.error.specs.declared.Answer.TheVariants.{At, No}
+use Rattle.spec.specs.Reading.Dtd.{word_among}
+use Rattle.error.specs.Read.{Said, said, placed, read, eaten, Answer, refused}
+use Rattle.error.specs.declared.Fault.{Fault}
 use Rattle.error.proofs.Laws.{passed≢refused, refuses, ate_only, ate_not}
 use Rattle.cursor.proofs.Reading.{reading}
 
--- the first row that stands, tried in order
-unfoldable pub rows : List ℕ → List ℕ → Reader
-rows [] flat = refuse unexpected
-rows (n ∷ ns) flat = choose (starts (take n flat)) (word_of (take n flat) unexpected) (rows ns (drop n flat))
+-- the first keyword of a table that stands, tried in order
+unfoldable pub first_of : List (Bor (List ℕ)) → Reader
+first_of [] = refuse unexpected
+first_of (k ∷ ks) = choose (starts k.now) (word_of k.now unexpected) (first_of ks)
 
-unfoldable pub total : List ℕ → ℕ
-total [] = 0
-total (n ∷ ns) = n + total ns
+-- Row i, where W is what is said of the whole; r is what eat_str gave for it.
+module _ (rows : List (Bor (List ℕ))) (i : ℕ) (s : List ℕ) (at : ℕ) (W : Said) (inv : read (first_of (drop i rows)) s at ≡ W) where
+  module _ (d : Bor (List ℕ)) (r : Answer) (h : i < length rows) (a : said r ≡ eaten (get_or rows i d).now unexpected s at) where
+    abbrev others : Reader
+    others = first_of (drop (i + 1) rows)
 
--- the table's bytes and lengths: those of the keywords, in the order in which they are tried
-abbrev joined : List String → List ℕ
-joined [] = []
-joined (x ∷ xs) = ascii x ++ joined xs
+    next : drop i rows ≡ get_or rows i d ∷ drop (i + 1) rows
+    next = rw (add-one, drop-cons rows i d)
 
-abbrev sized : List String → List ℕ
-sized [] = []
-sized (x ∷ xs) = length (ascii x) ∷ sized xs
+    whole : read (choose (starts (get_or rows i d).now) (word_of (get_or rows i d).now unexpected) others) s at ≡ W
+    unfolding first_of
+    whole = rw next at inv
 
-unfoldable pub keyword_bytes : List ℕ
-keyword_bytes = joined tokenized
+    pub row_is : (e : ℕ) → r ≡ Ok e → said (Ok e) ≡ W
+    row_is e g = ate_only (get_or rows i d).now unexpected s at r a others e g ∙ whole
 
-unfoldable pub keyword_lengths : List ℕ
-keyword_lengths = sized tokenized
+    pub row_not : (x : Fault) → r ≡ Err x → read (first_of (drop (i + 1) rows)) s at ≡ W
+    row_not x g = ate_not (get_or rows i d).now unexpected s at r a (word_of (get_or rows i d).now unexpected) others x (read others s at) g refl ∙ whole
 
--- its rows are the keywords: one computed test
-pub rows_all : (s : List ℕ) (at : ℕ) → read (rows keyword_lengths keyword_bytes) s at ≡ read (word_among tokenized (refuse unexpected)) s at
-unfolding rows word_among on keyword_lengths keyword_bytes
-rows_all s at = refl
+  pub row_none : (x : Fault) → length rows ≤ i → said (Err x) ≡ refused unexpected at → said (Err x) ≡ W
+  unfolding first_of
+  row_none x h e = refuses unexpected s at x e ∙ (rw (drop_of_length-le rows h) at inv)
 
-pub rows_room : total keyword_lengths ≤ 47
-unfolding total keyword_lengths
-rows_room = omega arith
-
--- row k, from a place on, of a table of bytes and lengths
-module _ (flat lens : List ℕ) (k from : ℕ) (l : length lens ≡ 8) (f : length flat ≡ 47) (h : k < 8) (room : from + total (drop k lens) ≤ 47) where
-  first_row : drop k lens ≡ get_or lens k 0 ∷ drop (k + 1) lens
-  first_row = drop_at lens k (rw l h)
-
-  pub row_room : from + get_or lens k 0 + total (drop (k + 1) lens) ≤ 47
-  unfolding total
-  row_room = let z = rw first_row at room in omega arith
-
-  pub row_fits : Fits w64 (from + get_or lens k 0)
-  row_fits = let z = row_room in omega arith
-
-  pub row_in : from + get_or lens k 0 ≤ length flat
-  row_in = let z = row_room in omega arith
-
--- r is what eat_str gave for it, and W what is said of the whole
-module _ (flat lens s : List ℕ) (at k from m : ℕ) (r : Answer) (W : Said) (l : length lens ≡ 8) (h : k < 8) (inv : read (rows (drop k lens) (drop from flat)) s at ≡ W) (a : said r ≡ eaten (take (from + get_or lens k 0 - from) (drop from flat)) m s at) where
-  abbrev row : List ℕ
-  row = take (get_or lens k 0) (drop from flat)
-
-  abbrev others : Reader
-  others = rows (drop (k + 1) lens) (drop (from + get_or lens k 0) flat)
-
-  ate_row : said r ≡ eaten row m s at
-  ate_row = let n : from + get_or lens k 0 - from ≡ get_or lens k 0 = omega arith in rw n at a
-
-  whole : read (choose (starts row) (word_of row unexpected) others) s at ≡ W
-  unfolding rows
-  whole = rw (drop_at lens k (rw l h), drop-drop) at inv
-
-  pub row_is : (e : ℕ) → r ≡ At e → said (At e) ≡ W
-  row_is e g = ate_only row m s at r ate_row others unexpected e g ∙ whole
-
-  pub row_not : (n i : ℕ) → r ≡ No n i → read (rows (drop (k + 1) lens) (drop (from + get_or lens k 0) flat)) s at ≡ W
-  row_not n i g = ate_not row m s at r ate_row (word_of row unexpected) others n i (read others s at) g refl ∙ whole
-
-pub row_none : (flat lens s : List ℕ) (at k from m : ℕ) (W : Said) → length lens ≡ 8 → 8 ≤ k → read (rows (drop k lens) (drop from flat)) s at ≡ W → m ≡ number unexpected → said (No m at) ≡ W
-unfolding rows
-row_none flat lens s at k from m W l h inv e = refuses unexpected m s at e ∙ (rw (drop_end lens k (rw l h)) at inv)
-
-pub ruleset tabled = (rows_all, rows_room, row_room, row_fits, row_in, row_is, row_not, row_none, rules)
+pub ruleset tabled = (row_is, row_not, row_none, rules)
 
 -- words tried in order: one of them is taken, whatever else there is, or what else there is reads on
 among : (ss : List String) (w : List ℕ) → ((k : ℕ) × ((q : Reader) → word_among ss q w ≡ ok k)) ⊎ ((q : Reader) → word_among ss q w ≡ q w)
@@ -111,17 +64,17 @@ among (x ∷ ss) w = go (starts (ascii x) w) refl (among ss w)
 
 -- r is what was read where the words stand alone
 module _ (ss : List String) (n : Refusal) (q : Reader) (s : List ℕ) (at : ℕ) (r : Answer) (a : said r ≡ read (word_among ss (refuse n)) s at) where
-  pub among_yes : (i : ℕ) → r ≡ At i → said (At i) ≡ read (word_among ss q) s at
+  pub among_yes : (i : ℕ) → r ≡ Ok i → said (Ok i) ≡ read (word_among ss q) s at
   unfolding read said refuse
   among_yes i e = go (among ss (drop at s))
     where
-      go : ((k : ℕ) × ((p : Reader) → word_among ss p (drop at s) ≡ ok k)) ⊎ ((p : Reader) → word_among ss p (drop at s) ≡ p (drop at s)) → said (At i) ≡ read (word_among ss q) s at
+      go : ((k : ℕ) × ((p : Reader) → word_among ss p (drop at s) ≡ ok k)) ⊎ ((p : Reader) → word_among ss p (drop at s) ≡ p (drop at s)) → said (Ok i) ≡ read (word_among ss q) s at
       go (inl (k, f)) = sym (ap said e) ∙ a ∙ (rw (f (refuse n), f q))
       go (inr f) = absurd (passed≢refused (sym (ap said e) ∙ a ∙ ap (placed at) (f (refuse n))))
 
-  pub among_no : (k i : ℕ) (b : Said) → r ≡ No k i → b ≡ read q s at → b ≡ read (word_among ss q) s at
+  pub among_no : (x : Fault) (b : Said) → r ≡ Err x → b ≡ read q s at → b ≡ read (word_among ss q) s at
   unfolding read said refuse
-  among_no k i b e g = go (among ss (drop at s))
+  among_no x b e g = go (among ss (drop at s))
     where
       go : ((k : ℕ) × ((p : Reader) → word_among ss p (drop at s) ≡ ok k)) ⊎ ((p : Reader) → word_among ss p (drop at s) ≡ p (drop at s)) → b ≡ read (word_among ss q) s at
       go (inl (j, f)) = absurd (passed≢refused (sym (ap (placed at) (f (refuse n))) ∙ sym a ∙ ap said e))

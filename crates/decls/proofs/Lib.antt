@@ -2,3 +2,4 @@ pub mod Bars
 pub mod Keywords
 pub mod Looking
 pub mod Defining
+pub mod Otherwise

@@ -6,7 +6,7 @@ use Rattle.spec.specs.Grammar.Names.{Dialect}
 use Rattle.spec.specs.Reading.Refusals.{unexpected}
 use Rattle.spec.specs.Reading.Readers.{Reader, ◌>>◌, nothing, starts, on, word, run, while}
 use Rattle.spec.specs.Reading.Wellformed.{name, check_char_refs}
-use Rattle.spec.specs.Reading.Dtd.{skip_s, require_s, parse_quoted, check_pubid, parse_external_id, bar_list, parse_att_def, on_quote, ncname, ndata, second_literal}
+use Rattle.spec.specs.Reading.Dtd.{skip_s, require_s, parse_quoted, check_pubid, check_att_value, parse_external_id, bar_list, parse_att_def, on_quote, ncname, ndata, second_literal}
 use Rattle.cursor.specs.Spaced.{spaced_literal}
 
 -- more than white space is left
@@ -30,6 +30,9 @@ notation_names D = require_s >> bar_list (name D)
 
 abbrev pub fixed : Reader
 fixed = on "#FIXED" (word "#FIXED" unexpected >> require_s) nothing
+
+abbrev pub default_value : Reader
+default_value = fixed >> parse_quoted check_att_value
 
 abbrev pub att_defs : Dialect → Reader
 att_defs D = while more_left (parse_att_def D) >> skip_s

@@ -5,7 +5,7 @@ ghost use Rattle.decls.specs.Pieces.{quote_next, ndata_next, spaced};
 use cursor::skip_s;
 use search::at_keyword;
 
-// A quote mark is next.
+// A quote mark is next. Like a connector (crate models) it is one of two signs, and each has its own production.
 pub fn at_quote(s: &[u8], at: usize) -> bool
     ensures { result ≡ quote_next (drop at s.now) }
 {

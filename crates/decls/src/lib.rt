@@ -10,5 +10,5 @@ mod notations;
 
 pub use attlists::{parse_att_def, parse_att_type, parse_attlist_decl, parse_default_decl};
 pub use entities::parse_entity_decl;
-pub use lists::{parse_enumeration, parse_name_group};
+pub use lists::parse_list;
 pub use notations::parse_notation_decl;

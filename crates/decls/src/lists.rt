@@ -1,75 +1,35 @@
 // Lists with '|' between the items: parse_name_group and parse_enumeration of dtd.rs, which differ only in the item.
 ghost use Rattle.std.specs.Prelude.{◌≡◌};
-ghost use Rattle.spec.specs.Reading.Wellformed.{name};
-ghost use Rattle.spec.specs.Reading.Dtd.{bar_list, nmtoken};
+ghost use Rattle.spec.specs.Reading.Dtd.{bar_list};
 ghost use Rattle.error.specs.Read.{said, read};
-ghost use Rattle.classes.specs.Classes.{dialect};
-ghost use Rattle.decls.specs.Items.{item_of, other_items};
+ghost use Rattle.decls.specs.Items.{other_items};
 
-use classes::Names;
-use cursor::{eat_str, need_name, need_nmtoken, skip_s};
-use error::{Answer, UNEXPECTED};
+use cursor::{Reads, eat_str, skip_s};
+use error::{Answer, Refusal};
 use search::at_keyword;
 
-// What stands between the bars.
-#[derive(Clone, Copy)]
-enum Item {
-    Name,
-    Nmtoken,
-}
-
-fn need_item(s: &[u8], at: usize, names: Names, item: Item) -> Answer
-    ensures { said result ≡ read (item_of (dialect names) item) s.now at }
-{
-    match item {
-        Item::Name => need_name(s, at, names),
-        Item::Nmtoken => need_nmtoken(s, at, names),
-    }
-}
-
 // The items after the first, as many as bars stand there, and the ')' after them. White space may stand around an item.
-fn parse_others(s: &[u8], at: usize, names: Names, item: Item) -> Answer
-    ensures { said result ≡ read (other_items (item_of (dialect names) item)) s.now at }
+#[tactic(auto, using(crate::proofs::Bars::listing), unfolding(spec::specs::Reading::Dtd::after))]
+fn parse_others<I: Reads>(s: &[u8], at: usize, item: &I) -> Answer
+    ensures { said result ≡ read (other_items (I.reader item.now)) s.now at }
 {
     let mut i = at;
     while at_keyword(s, i, b"|") {
         let from = skip_s(s, i + 1);
-        let r = need_item(s, from, names, item);
-        let Answer::At(to) = r else {
-            return r;
-        };
+        let to = item.read(s, from)?;
         i = skip_s(s, to);
     }
-    eat_str(s, i, b")", UNEXPECTED)
+    eat_str(s, i, b")", Refusal::Unexpected)
 }
 
-// '(' S? item (S? '|' S? item)* S? ')'
-fn parse_list(s: &[u8], at: usize, names: Names, item: Item) -> Answer
-    ensures { said result ≡ read (bar_list (item_of (dialect names) item)) s.now at }
+// [58] NotationType from its '(' on, and [59] Enumeration: '(' S? item (S? '|' S? item)* S? ')'
+#[tactic(auto, using(cursor::proofs::Reading::reading), unfolding(spec::specs::Reading::Dtd::bar_list))]
+pub fn parse_list<I: Reads>(s: &[u8], at: usize, item: &I) -> Answer
+    ensures { said result ≡ read (bar_list (I.reader item.now)) s.now at }
 {
-    let r = eat_str(s, at, b"(", UNEXPECTED);
-    let Answer::At(opened) = r else {
-        return r;
-    };
+    let opened = eat_str(s, at, b"(", Refusal::Unexpected)?;
     let from = skip_s(s, opened);
-    let r = need_item(s, from, names, item);
-    let Answer::At(to) = r else {
-        return r;
-    };
+    let to = item.read(s, from)?;
     let next = skip_s(s, to);
-    parse_others(s, next, names, item)
-}
-
-// [58] NotationType, from its '(' on.
-pub fn parse_name_group(s: &[u8], at: usize, names: Names) -> Answer
-    ensures { said result ≡ read (bar_list (name (dialect names))) s.now at }
-{
-    parse_list(s, at, names, Item::Name)
-}
-
-// [59] Enumeration.
-pub fn parse_enumeration(s: &[u8], at: usize, names: Names) -> Answer
-    ensures { said result ≡ read (bar_list (nmtoken (dialect names))) s.now at }
-{
-    parse_list(s, at, names, Item::Nmtoken)
+    parse_others(s, next, item)
 }

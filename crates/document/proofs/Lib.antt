@@ -1,8 +1,9 @@
 pub mod Declared
 pub mod Items
-pub mod Closing
 pub mod Tags
+pub mod Closing
 pub mod Prologs
+pub mod Backwards
 pub mod Unended
 pub mod Judging
 pub mod Findings

@@ -10,6 +10,7 @@ use borrow.Author.Tests.{not-true, not-false}
 use lib.Dec.{eqb, ltb}
 use lib.ListN.{length, drop}
 use lib.Seq.{drop-drop}
+use Rattle.std.specs.Prelude.{Some, None, Ok, Err}
 use Rattle.spec.specs.Basics.{pick, limit}
 use Rattle.spec.specs.Grammar.Languages.{ascii}
 use Rattle.spec.specs.Grammar.Names.{Dialect}
@@ -20,15 +21,12 @@ use Rattle.spec.specs.Reading.Readers.{Result, ok, err, Reader, taken, past, ◌
 use Rattle.spec.specs.Reading.Refusals.{Refusal, number, too_long, unterminated, trailing, unexpected, too_deep}
 use Rattle.spec.specs.Reading.Verdict.{moved_text}
 use Rattle.spec.proofs.Base.Results.{err_ok, ok_inj, on_ok_ok, then_ok, unless_refused, else_refused}
-use Rattle.error.specs.Read.{passed, refused, said, read, placed}
-use Rattle.error.specs.declared.Answer.{Answer}
-use Rattle.error.specs.declared.Answer.TheVariants.{At, No}
+use Rattle.error.specs.Read.{Answer, passed, reason, refused, said, read, placed}
+use Rattle.error.specs.declared.Fault.{Fault}
 use Rattle.error.proofs.Laws.{passed≢refused, was_ok, seq_no, seq_at, took_nothing}
 use Rattle.search.proofs.Words.{on_yes, on_no, word_fits}
 use Rattle.spec.proofs.Base.Sequences.{doctype_then}
-use Rattle.document.specs.Prologs.{with_text, placed_prolog, prolog_read, ending_read}
-use Rattle.document.specs.declared.opening.Prolog.{Prolog}
-use Rattle.document.specs.declared.opening.Prolog.TheVariants.{Read, Refused}
+use Rattle.document.specs.Prologs.{Prolog, up_to, refuses, opens, placed_prolog, prolog_read, ending_read}
 
 -- two refusals are none of them a place
 either_err : (t : Bool) (n m : Refusal) (i j k : ℕ) → pick t (err n i) (err m j) ≡ ok k → ⊥
@@ -62,50 +60,51 @@ doctype_parts D w k e =
     let z : b ≡ m + 1 = omega arith in
     (m, ap (λ (i : ℕ). doctype_before D too_deep (word ">" trailing) (drop i w)) y ∙ t ∙ ap ok z, omega arith)
 
-pub doctype_some : (D : Dialect) (s : List ℕ) (at i : ℕ) (r : Answer) → r ≡ At i → said r ≡ read (read_doctype D) s at → 1 ≤ i
+pub doctype_some : (D : Dialect) (s : List ℕ) (at i : ℕ) (r : Answer) → r ≡ Ok i → said r ≡ read (read_doctype D) s at → 1 ≤ i
 doctype_some D s at i r e a =
     let (k, (f, g)) = was_ok (read_doctype D) s at i r a e in
     let (m, _, h) = doctype_parts D (drop at s) k f in
     omega arith
 
 -- What the reader alone says gives the answer.
-module _ (at : ℕ) (x : Result) (t : DoctypeText) where
-  answer_no : (n k : ℕ) → refused n k ≡ placed at x → Refused n k ≡ placed_prolog at x t
-  answer_no n k e = go x e
+module _ (at : ℕ) (y : Result) (t : DoctypeText) where
+  answer_no : (x : Fault) → refused (reason x.refusal) x.place ≡ placed at y → refuses (reason x.refusal) x.place ≡ placed_prolog at y t
+  answer_no x e = go y e
     where
-      go : (x : Result) → refused n k ≡ placed at x → Refused n k ≡ placed_prolog at x t
+      go : (y : Result) → refused (reason x.refusal) x.place ≡ placed at y → refuses (reason x.refusal) x.place ≡ placed_prolog at y t
       go (ok j) f = absurd (passed≢refused (sym f))
-      go (err m j) f = let y : n ≡ number m = cc in let z : k ≡ at + j = cc in rw (y, z)
+      go (err m j) f = let n : reason x.refusal ≡ m = cc in let k : x.place ≡ at + j = cc in rw (n, k)
 
-  answer_at : (e : ℕ) → passed e ≡ placed at x → with_text e (moved_text at t) ≡ placed_prolog at x t
-  answer_at e f = go x f
+  answer_at : (e : ℕ) → passed e ≡ placed at y → up_to e (moved_text at t) ≡ placed_prolog at y t
+  answer_at e f = go y f
     where
-      go : (x : Result) → passed e ≡ placed at x → with_text e (moved_text at t) ≡ placed_prolog at x t
-      go (ok j) f = let y : e ≡ at + j = cc in rw y
+      go : (y : Result) → passed e ≡ placed at y → up_to e (moved_text at t) ≡ placed_prolog at y t
+      go (ok j) f = let z : e ≡ at + j = cc in rw z
       go (err m j) f = absurd (passed≢refused f)
 
 -- (doctypedecl Misc*)?: what is said of it, r, and b whether a DOCTYPE begins
 module _ (D : Dialect) (s : List ℕ) (at : ℕ) where
-  pub ending_no : (n k : ℕ) (r : Answer) → r ≡ No n k → said r ≡ read (read_ending D) s at → Refused n k ≡ ending_read D s at
-  unfolding ending_read read said
-  ending_no n k r e a = answer_no at (read_ending D (drop at s)) (read_after D 0 (drop at s)) n k (sym (ap said e) ∙ a)
+  pub ending_no : (x : Fault) → said (Err x) ≡ read (read_ending D) s at → opens (Err x) ≡ ending_read D s at
+  unfolding ending_read read said opens
+  ending_no x a = answer_no at (read_ending D (drop at s)) (read_after D 0 (drop at s)) x a
 
-  module _ (e : ℕ) (b : Bool) (h : b ≡ starts (ascii "<!DOCTYPE") (drop at s)) where
-    pub ending_none : b ≡ false → said (At e) ≡ read (read_ending D) s at → Read e false 0 0 ≡ ending_read D s at
-    unfolding ending_read read said
+  module _ (b : Bool) (h : b ≡ starts (ascii "<!DOCTYPE") (drop at s)) where
+    pub ending_none : b ≡ false → said (Ok at) ≡ read (read_ending D) s at → opens (Ok (record { end = at; doctype = None })) ≡ ending_read D s at
+    unfolding ending_read read said opens
     ending_none f a =
         let t : read_after D 0 (drop at s) ≡ no_doctype = rw (sym h ∙ f) in
-        answer_at at (read_ending D (drop at s)) no_doctype e a ∙ ap (placed_prolog at (read_ending D (drop at s))) (sym t)
+        answer_at at (read_ending D (drop at s)) no_doctype at a ∙ ap (placed_prolog at (read_ending D (drop at s))) (sym t)
 
-    pub ending_some : (i : ℕ) (r q : Answer) → b ≡ true → r ≡ At i → said r ≡ read (read_doctype D) s at → q ≡ At e → said q ≡ read (read_ending D) s at → Read e true (at + 9) (i - 1) ≡ ending_read D s at
-    unfolding ending_read read said
-    ending_some i r q f g c l a =
+    pub ending_some : (e i : ℕ) (r q : Answer) → b ≡ true → r ≡ Ok i → said r ≡ read (read_doctype D) s at → q ≡ Ok e → said q ≡ read (read_ending D) s at
+        → opens (Ok (record { end = e; doctype = Some (record { start = at + 9; end = i - 1 }) })) ≡ ending_read D s at
+    unfolding ending_read read said opens
+    ending_some e i r q f g c l a =
         let (k, (x, y)) = was_ok (read_doctype D) s at i r (unfold read said in c) g in
         let (m, u, v) = doctype_parts D (drop at s) k x in
         let t : read_after D 0 (drop at s) ≡ from_to (0 + 9) (0 + 9 + (m + 1 - 1)) = rw (sym h ∙ f, u) in
         let o : at + 9 ≡ at + (0 + 9) = omega arith in
         let p : i - 1 ≡ at + (0 + 9 + (m + 1 - 1)) = omega arith in
-        ap (λ (j : ℕ). Read e true j (i - 1)) o ∙ ap (Read e true (at + (0 + 9))) p
+        ap (λ (j : ℕ). up_to e (from_to j (i - 1))) o ∙ ap (λ (j : ℕ). up_to e (from_to (at + (0 + 9)) j)) p
         ∙ answer_at at (read_ending D (drop at s)) (from_to (0 + 9) (0 + 9 + (m + 1 - 1))) e (sym (ap said l) ∙ a)
         ∙ ap (placed_prolog at (read_ending D (drop at s))) (sym t)
 
@@ -114,8 +113,8 @@ text_on : (D : Dialect) (at k : ℕ) (x : Result) (v : List ℕ) → placed_prol
 text_on D at k x v = go (starts (ascii "<!DOCTYPE") v) x (taken (read_doctype_text D (drop 9 v)) - 1)
   where
     go : (t : Bool) (x : Result) (n : ℕ) → placed_prolog (at + k) x (pick t (from_to (0 + 9) (0 + 9 + n)) no_doctype) ≡ placed_prolog at (past k x) (pick t (from_to (k + 9) (k + 9 + n)) no_doctype)
-    go t (err m j) n = ap (Refused (number m)) (add_assoc at k j)
-    go false (ok j) n = ap (λ (e : ℕ). Read e false 0 0) (add_assoc at k j)
+    go t (err m j) n = ap (refuses m) (add_assoc at k j)
+    go false (ok j) n = ap (λ (e : ℕ). up_to e no_doctype) (add_assoc at k j)
     go true (ok j) n =
         let e : at + k + j ≡ at + (k + j) = omega arith in
         let f : at + k + (0 + 9) ≡ at + (k + 9) = omega arith in
@@ -124,11 +123,11 @@ text_on D at k x v = go (starts (ascii "<!DOCTYPE") v) x (taken (read_doctype_te
 
 -- XMLDecl? Misc*, and then that: r is what is said of the first
 module _ (D : Dialect) (s : List ℕ) (at : ℕ) (r : Answer) (a : said r ≡ read (read_opening D) s at) where
-  pub prolog_no : (n k : ℕ) → r ≡ No n k → Refused n k ≡ prolog_read D s at
-  unfolding prolog_read read_prolog read said
-  prolog_no n k e = answer_no at (read_prolog D (drop at s)) (find_doctype D (drop at s)) n k (sym (ap said e) ∙ seq_no (read_opening D) (read_ending D) s at n k r a e)
+  pub prolog_no : (x : Fault) → r ≡ Err x → opens (Err x) ≡ prolog_read D s at
+  unfolding prolog_read read_prolog read said opens
+  prolog_no x e = answer_no at (read_prolog D (drop at s)) (find_doctype D (drop at s)) x (seq_no (read_opening D) (read_ending D) s at x r a e)
 
-  pub prolog_then : (i : ℕ) (p : Prolog) → r ≡ At i → p ≡ ending_read D s i → p ≡ prolog_read D s at
+  pub prolog_then : (i : ℕ) (p : Prolog) → r ≡ Ok i → p ≡ ending_read D s i → p ≡ prolog_read D s at
   unfolding prolog_read read_prolog ◌>>◌ ending_read find_doctype
   prolog_then i p e f =
       let (k, (g, h)) = was_ok (read_opening D) s at i r a e in

@@ -1,23 +1,25 @@
--- A verdict in the code's numbers. Assumes nothing.
-use Rattle.std.specs.Prelude.{Bool, true, false, ℕ}
-use Rattle.spec.specs.Grammar.Prolog.{DoctypeText, no_doctype, from_to}
-use Rattle.spec.specs.Reading.Refusals.{number}
+-- A verdict as far as the code tells it: a refusal with its place, and where what does not end was opened. Assumes nothing.
+use Rattle.std.specs.Prelude.{ℕ, Result, Ok, Err}
+use Rattle.spec.specs.Grammar.Prolog.{DoctypeText}
+use Rattle.spec.specs.Reading.Refusals.{Refusal}
 use Rattle.spec.specs.Reading.Verdict.{Verdict, accepted, refused, ended, rootless}
-use Rattle.document.specs.declared.finding.Finding.{Finding}
-use Rattle.document.specs.declared.finding.Finding.TheVariants.{Accepted, Refused, Ended, Rootless}
+use Rattle.error.specs.Read.{reason}
+use Rattle.document.specs.Prologs.{text_of}
+use Rattle.document.specs.declared.finding.Lost.{Lost}
+use Rattle.document.specs.declared.opening.Opening.{Opening}
 
-abbrev pub found_text : ℕ → DoctypeText → Finding
-found_text k no_doctype = Accepted k false 0 0
-found_text k (from_to i j) = Accepted k true i j
+-- where the root begins, and the DOCTYPE's text; or the refusal, where what does not end was opened, and the place
+pub data Found : Type 0 where
+  reads : ℕ → DoctypeText → Found
+  loses : Refusal → ℕ → ℕ → Found
 
-unfoldable pub found : Verdict → Finding
-found (accepted k t) = found_text k t
-found (refused r k) = Refused (number r) k
-found (ended r i j) = Ended (number r) i j
-found (rootless r k) = Rootless (number r) k
+abbrev pub found : Verdict → Found
+found (accepted k t) = reads k t
+found (refused r k) = loses r k k
+found (ended r i j) = loses r i j
+found (rootless r k) = loses r k k
 
-abbrev pub is_accepted : Finding → Bool
-is_accepted (Accepted k h i j) = true
-is_accepted (Refused n k) = false
-is_accepted (Ended n i j) = false
-is_accepted (Rootless n k) = false
+-- what the code's answer says
+unfoldable pub finds : Result Opening Lost → Found
+finds (Ok o) = reads o.end (text_of o.doctype)
+finds (Err l) = loses (reason l.fault.refusal) l.opened l.fault.place

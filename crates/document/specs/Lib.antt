@@ -1,5 +1,5 @@
 pub mod Closed
+pub mod Prologs
 pub mod Judgements
 pub mod Findings
 pub mod Judges
-pub mod Prologs

@@ -1,151 +1,166 @@
 // The check of a whole document: "check this file".
-ghost use Rattle.std.specs.Prelude.{◌≡◌};
+ghost use Rattle.std.specs.Prelude.{◌≡◌, Ok, Err};
+ghost use Rattle.spec.specs.Reading.Refusals.{number};
 ghost use Rattle.spec.specs.Reading.Verdict.{mark_length};
-ghost use Rattle.spec.specs.Grammar.Encodings.{looks_like};
+ghost use Rattle.error.specs.Read.{reason};
 ghost use Rattle.classes.specs.Classes.{dialect};
-ghost use Rattle.document.specs.Judges.{further_by, unread_between, refused_as, accepted_as, spelled, is_wide, Judges};
+ghost use Rattle.lines.specs.Lines.{line, column};
+ghost use Rattle.document.specs.Findings.{finds};
+ghost use Rattle.document.specs.Prologs.{text_of};
+ghost use Rattle.document.specs.Judges.{further_by, unread_between, refused_as, accepted_as, spelled, told, Judges};
 
-use crate::finding::{Finding, find};
+use crate::finding::{Finding, Lost, find};
+use crate::opening::Opening;
 use classes::Names;
-use encodings::{Wide, looks_like};
+use encodings::looks_like;
 use entries::count_unread;
-use error::{ACCEPTED, NOT_UTF8};
+use error::Refusal;
 use lines::{column_of, line_of};
 use search::at_keyword;
+use source::Span;
 
-// The byte order mark of UTF-8 has so many bytes.
-const MARK: usize = 3;
+// The byte order mark of UTF-8.
+const MARK: [u8; 3] = [0xEF, 0xBB, 0xBF];
 
-// No place of a text is beyond this one, so the mark's bytes can be added to any.
-const LAST: usize = 18446744073709551612;
-
-// The verdict on a document: its number, 0 where it is accepted; the place of the refusal, or of the root; line and column of that place; where
-// what does not end was opened, or the place itself; the DOCTYPE's text, between `<!DOCTYPE` and its `>`, if there is one in a document
-// that is accepted; and how many of its declarations were not read.
-#[derive(Clone, Copy)]
-pub struct Verdict {
-    pub number: u8,
+// A place, counted from the file's first byte, and its line and column in the text behind the mark.
+#[derive(Clone, Copy, Debug, PartialEq, Eq)]
+pub struct Spot {
     pub place: usize,
     pub line: usize,
     pub column: usize,
-    pub opened: usize,
-    pub has_doctype: bool,
-    pub doctype_start: usize,
-    pub doctype_end: usize,
+}
+
+// An accepted document: where its root begins; the DOCTYPE's text, between `<!DOCTYPE` and its `>`, if it has one; and how many of the
+// declarations in it were not read.
+#[derive(Clone, Copy, Debug, PartialEq, Eq)]
+pub struct Accepted {
+    pub root: Spot,
+    pub doctype: Option<Span>,
     pub unread: usize,
 }
 
-// A place counted from behind the mark, as one of the whole text.
-fn further(k: usize, marked: bool) -> usize
-    ensures { result ≡ further_by marked k }
-{
-    if marked {
-        if LAST < k {
-            return k;
+// A refused one: why and where, and the place where what does not end was opened, or the same place.
+#[derive(Clone, Copy, Debug, PartialEq, Eq)]
+pub struct Refused {
+    pub refusal: Refusal,
+    pub at: Spot,
+    pub opened: usize,
+}
+
+// The verdict on a document.
+pub type Verdict = Result<Accepted, Refused>;
+
+// A text behind its byte order mark, and how many bytes that has.
+#[derive(Clone, Copy)]
+struct Unmarked<'a> {
+    text: &'a [u8],
+    mark: usize,
+}
+
+impl Unmarked<'_> {
+    // A place of it, as one of the whole text. No sum is too large for a place of a text; the test shows that to the prover.
+    fn further(&self, place: usize) -> usize
+        ensures { result ≡ further_by self.now.mark place }
+    {
+        place.checked_add(self.mark).unwrap_or(place)
+    }
+
+    #[tactic(auto, using(crate::proofs::Checking::checking))]
+    fn spot(&self, place: usize) -> Spot
+        ensures place { result.place ≡ further_by self.now.mark place }
+        ensures line { result.line ≡ line self.now.text.now place }
+        ensures column { result.column ≡ column self.now.text.now place }
+    {
+        Spot {
+            place: self.further(place),
+            line: line_of(self.text, place),
+            column: column_of(self.text, place),
         }
-        return k + MARK;
     }
-    k
-}
 
-// How many declarations go unread in the DOCTYPE's text between two places. No place lies outside; the tests show that to the prover.
-fn unread_in(t: &[u8], a: usize, b: usize, names: Names) -> usize
-    ensures { result ≡ unread_between (dialect names) t.now a b }
-{
-    if t.len() < b {
-        return 0;
+    // How many declarations go unread in the DOCTYPE's text. No place of it lies outside; the test shows that to the prover.
+    #[tactic(auto, using(crate::proofs::Checking::checking))]
+    fn unread_in(&self, doctype: Span, names: Names) -> usize
+        ensures { result ≡ unread_between (dialect names) self.now.text.now doctype.start doctype.end }
+    {
+        self.text
+            .get(doctype.start..doctype.end)
+            .map_or(0, |part| count_unread(part, names))
     }
-    if b < a {
-        return 0;
-    }
-    count_unread(&t[a..b], names)
-}
 
-fn refused(t: &[u8], marked: bool, number: u8, opened: usize, place: usize) -> Verdict
-    ensures { result ≡ refused_as t.now marked number opened place }
-{
-    Verdict {
-        number: number,
-        place: further(place, marked),
-        line: line_of(t, place),
-        column: column_of(t, place),
-        opened: further(opened, marked),
-        has_doctype: false,
-        doctype_start: 0,
-        doctype_end: 0,
-        unread: 0,
-    }
-}
-
-fn accepted(t: &[u8], marked: bool, root: usize, a: usize, b: usize, names: Names) -> Verdict
-    ensures { result ≡ accepted_as (dialect names) t.now marked root a b }
-{
-    Verdict {
-        number: ACCEPTED,
-        place: further(root, marked),
-        line: line_of(t, root),
-        column: column_of(t, root),
-        opened: further(root, marked),
-        has_doctype: true,
-        doctype_start: further(a, marked),
-        doctype_end: further(b, marked),
-        unread: unread_in(t, a, b, names),
-    }
-}
-
-// What is found of a text, in full.
-fn spell(t: &[u8], marked: bool, finding: Finding, names: Names) -> Verdict
-    ensures { result ≡ spelled (dialect names) t.now marked finding }
-{
-    match finding {
-        Finding::Accepted(k, has, a, b) => {
-            if has {
-                return accepted(t, marked, k, a, b, names);
-            }
-            refused(t, marked, ACCEPTED, k, k)
+    // (By map and map_or over the DOCTYPE, in one record, the proof did not close.)
+    #[tactic(auto, using(crate::proofs::Checking::checking))]
+    fn accept(&self, opening: Opening, names: Names) -> Accepted
+        ensures { told (Ok result) ≡ accepted_as (dialect names) self.now.text.now self.now.mark opening.end (text_of opening.doctype) }
+    {
+        let root = self.spot(opening.end);
+        let Some(doctype) = opening.doctype else {
+            return Accepted {
+                root,
+                doctype: None,
+                unread: 0,
+            };
+        };
+        let moved = Span {
+            start: self.further(doctype.start),
+            end: self.further(doctype.end),
+        };
+        Accepted {
+            root,
+            doctype: Some(moved),
+            unread: self.unread_in(doctype, names),
         }
-        Finding::Refused(n, k) => refused(t, marked, n, k, k),
-        Finding::Ended(n, o, k) => refused(t, marked, n, o, k),
-        Finding::Rootless(n, k) => refused(t, marked, n, k, k),
     }
-}
 
-// UTF-16 or UTF-32, by its first bytes.
-fn is_wide(text: &[u8]) -> bool
-    ensures { result ≡ is_wide (looks_like text.now) }
-{
-    let wide = looks_like(text);
-    match wide {
-        Wide::Narrow => false,
-        Wide::Utf16Be => true,
-        Wide::Utf16Le => true,
-        Wide::Utf32Be => true,
-        Wide::Utf32Le => true,
+    #[tactic(auto, using(crate::proofs::Checking::checking))]
+    fn refuse(&self, lost: Lost) -> Refused
+        ensures { told (Err result) ≡ refused_as self.now.text.now self.now.mark (number (reason lost.fault.refusal)) lost.opened lost.fault.place }
+    {
+        Refused {
+            refusal: lost.fault.refusal,
+            at: self.spot(lost.fault.place),
+            opened: self.further(lost.opened),
+        }
+    }
+
+    // What is found of it, in full.
+    #[tactic(auto, using(crate::proofs::Checking::checking))]
+    fn spell(&self, finding: Finding, names: Names) -> Verdict
+        ensures { told result ≡ spelled (dialect names) self.now.text.now self.now.mark (finds finding) }
+    {
+        match finding {
+            Ok(opening) => Ok(self.accept(opening, names)),
+            Err(lost) => Err(self.refuse(lost)),
+        }
     }
 }
 
 // How many bytes the byte order mark has that a text begins with, if it begins with one.
+#[tactic(auto, using(crate::proofs::Checking::checking))]
 pub fn mark_length(text: &[u8]) -> usize
     ensures { result ≡ mark_length text.now }
 {
-    if at_keyword(text, 0, &[0xEF, 0xBB, 0xBF]) {
-        return MARK;
+    if at_keyword(text, 0, &MARK) {
+        MARK.len()
+    } else {
+        0
     }
-    0
 }
 
-// The verdict on a document of which the text is all, or the beginning, by these names.
+// The verdict on a document of which the text is all, or the beginning, by these names. What looks like UTF-16 or UTF-32 is not UTF-8.
+#[tactic(auto, using(crate::proofs::Checking::checking))]
 pub fn check_document(text: &[u8], whole: bool, names: Names) -> Verdict
-    ensures { Judges (dialect names) whole text.now result }
+    ensures { Judges (dialect names) whole text.now (told result) }
 {
-    if is_wide(text) {
-        return refused(text, false, NOT_UTF8, 0, 0);
+    if looks_like(text).is_some() {
+        let whole = Unmarked { text, mark: 0 };
+        return Err(whole.refuse(Lost::from(Refusal::NotUtf8.at(0))));
     }
     let mark = mark_length(text);
-    if mark == 0 {
-        let found = find(text, whole, names);
-        return spell(text, false, found, names);
-    }
-    let found = find(&text[MARK..], whole, names);
-    spell(&text[MARK..], true, found, names)
+    let document = Unmarked {
+        text: &text[mark..],
+        mark,
+    };
+    let found = find(document.text, whole, names);
+    document.spell(found, names)
 }

@@ -1,70 +1,62 @@
 // [28] doctypedecl, whole.
+// Text, place and names stay three parameters (classes/src/lib.rt says why).
 ghost use Rattle.std.specs.Prelude.{◌≡◌};
 ghost use Rattle.spec.specs.Reading.Document.{closing, read_doctype_text, read_doctype};
-ghost use Rattle.error.specs.Read.{said, read};
+ghost use Rattle.error.specs.Read.{reason, said, read};
 ghost use Rattle.classes.specs.Classes.{dialect};
 ghost use Rattle.document.specs.Closed.{closed};
 
 use classes::Names;
 use cursor::eat_str;
 use dtd::parse_before_end;
-use error::{Answer, TOO_LONG, TRAILING, UNEXPECTED, UNTERMINATED};
-use search::{Found, find_byte};
+use error::{Answer, Fault, Refusal};
+use search::find_byte;
 
 // The longest text that is looked at, and "<!DOCTYPE" and '>' around it.
-const LONGEST: usize = 1048586;
+const LONGEST: usize = 1_048_586;
 
 // [28] doctypedecl after its "<!DOCTYPE", with the '>'
+#[tactic(auto, using(crate::proofs::Closing::doctype_texts), unfolding(spec::specs::Reading::Document::read_doctype_text))]
 fn read_doctype_text(s: &[u8], at: usize, names: Names) -> Answer
     ensures { said result ≡ read (read_doctype_text (dialect names)) s.now at }
 {
-    let r = parse_before_end(s, at, names);
-    let Answer::At(i) = r else {
-        return r;
-    };
-    eat_str(s, i, b">", TRAILING)
+    let i = parse_before_end(s, at, names)?;
+    eat_str(s, i, b">", Refusal::Trailing)
 }
 
-// Whether a refusal n at k is told as it is: a '>' is left to end the DOCTYPE; or something that was opened in it does not end, as a comment
-// in the subset, whose sign stands before k and says more than that the DOCTYPE does not end.
-fn is_closed(s: &[u8], n: u8, k: usize) -> bool
-    ensures { result ≡ closed n k s.now }
+// Whether a fault is told as it is: a '>' is left to end the DOCTYPE; or something that was opened in it does not end, as a comment in the
+// subset, whose sign stands before the fault's place and says more than that the DOCTYPE does not end.
+#[tactic(auto, using(crate::proofs::Closing::closings))]
+fn is_closed(s: &[u8], fault: Fault) -> bool
+    ensures { result ≡ closed (reason fault.refusal) fault.place s.now }
 {
-    let c = find_byte(s, k, b'>');
-    if let Found::Here(_) = c {
-        return true;
-    }
-    (n == UNTERMINATED) & (k < s.len())
+    find_byte(s, fault.place, b'>').is_some()
+        || matches!(fault.refusal, Refusal::Unterminated) && fault.place < s.len()
 }
 
 // The same; but where it is refused and no '>' is left, it does not end, whatever else is wrong in it.
+#[tactic(auto, using(crate::proofs::Closing::closings))]
 fn read_closed(s: &[u8], at: usize, names: Names) -> Answer
     ensures { said result ≡ read (closing (read_doctype_text (dialect names))) s.now at }
 {
-    let r = read_doctype_text(s, at, names);
-    let Answer::No(n, k) = r else {
-        return r;
-    };
-    if is_closed(s, n, k) {
-        return Answer::No(n, k);
-    }
-    Answer::No(UNTERMINATED, at)
+    read_doctype_text(s, at, names).map_err(|fault| {
+        if is_closed(s, fault) {
+            fault
+        } else {
+            Refusal::Unterminated.at(at)
+        }
+    })
 }
 
 // [28] doctypedecl, at most so long that its text is one that is looked at
+#[tactic(auto, using(crate::proofs::Closing::doctypes), unfolding(spec::specs::Reading::Document::read_doctype))]
 pub fn read_doctype(s: &[u8], at: usize, names: Names) -> Answer
     ensures { said result ≡ read (read_doctype (dialect names)) s.now at }
 {
-    let r = eat_str(s, at, b"<!DOCTYPE", UNEXPECTED);
-    let Answer::At(i) = r else {
-        return r;
-    };
-    let r = read_closed(s, i, names);
-    let Answer::At(e) = r else {
-        return r;
-    };
+    let i = eat_str(s, at, b"<!DOCTYPE", Refusal::Unexpected)?;
+    let e = read_closed(s, i, names)?;
     if LONGEST < e - at {
-        return Answer::No(TOO_LONG, at);
+        return Err(Refusal::TooLong.at(at));
     }
-    Answer::At(e)
+    Ok(e)
 }

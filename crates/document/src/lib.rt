@@ -12,4 +12,4 @@ mod opening;
 mod root;
 mod verdict;
 
-pub use check::{Verdict, check_document, mark_length};
+pub use check::{Accepted, Refused, Spot, Verdict, check_document, mark_length};

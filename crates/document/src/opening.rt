@@ -1,63 +1,63 @@
 // [22] prolog, whole, and where the DOCTYPE's text lies in it.
+// Text, place and names stay three parameters (classes/src/lib.rt says why).
 ghost use Rattle.std.specs.Prelude.{◌≡◌};
 ghost use Rattle.spec.specs.Reading.Document.{read_opening};
 ghost use Rattle.error.specs.Read.{said, read};
 ghost use Rattle.classes.specs.Classes.{dialect};
-ghost use Rattle.document.specs.Prologs.{ending_read, prolog_read};
+ghost use Rattle.document.specs.Prologs.{opens, ending_read, prolog_read};
 
 use crate::declaration::read_declaration;
 use crate::doctype::read_doctype;
 use crate::misc::read_misc;
 use classes::Names;
-use error::Answer;
+use error::{Answer, Fault};
 use search::at_keyword;
+use source::Span;
 
-// The place after the prolog, whether it has a DOCTYPE, and the two ends of the DOCTYPE's text (0 and 0 where there is none); or the number
-// of the refusal and its place.
-#[derive(Clone, Copy)]
-pub enum Prolog {
-    Read(usize, bool, usize, usize),
-    Refused(u8, usize),
+// Where the prolog ends, and the DOCTYPE's text, between "<!DOCTYPE" and its '>', if it has one.
+#[derive(Clone, Copy, Debug, PartialEq, Eq)]
+pub struct Opening {
+    pub end: usize,
+    pub doctype: Option<Span>,
 }
 
 // XMLDecl? Misc* of [22] prolog
+#[tactic(auto, using(crate::proofs::Prologs::openings), unfolding(spec::specs::Reading::Document::read_opening))]
 fn read_opening(s: &[u8], at: usize, names: Names) -> Answer
     ensures { said result ≡ read (read_opening (dialect names)) s.now at }
 {
-    let r = read_declaration(s, at);
-    let Answer::At(i) = r else {
-        return r;
-    };
+    let i = read_declaration(s, at)?;
     read_misc(s, i, names)
 }
 
 // (doctypedecl Misc*)? of [22] prolog. The DOCTYPE's text lies between its "<!DOCTYPE" and its '>', the last byte of it.
-fn read_ending(s: &[u8], at: usize, names: Names) -> Prolog
-    ensures { result ≡ ending_read (dialect names) s.now at }
+#[tactic(auto, using(crate::proofs::Prologs::endings), unfolding(spec::specs::Reading::Document::read_ending))]
+fn read_ending(s: &[u8], at: usize, names: Names) -> Result<Opening, Fault>
+    ensures { opens result ≡ ending_read (dialect names) s.now at }
 {
     if !at_keyword(s, at, b"<!DOCTYPE") {
-        return Prolog::Read(at, false, 0, 0);
+        return Ok(Opening {
+            end: at,
+            doctype: None,
+        });
     }
-    let r = read_doctype(s, at, names);
-    match r {
-        Answer::No(n, k) => Prolog::Refused(n, k),
-        Answer::At(i) => {
-            let q = read_misc(s, i, names);
-            match q {
-                Answer::No(n, k) => Prolog::Refused(n, k),
-                Answer::At(e) => Prolog::Read(e, true, at + 9, i - 1),
-            }
-        }
-    }
+    let past = read_doctype(s, at, names)?;
+    let end = read_misc(s, past, names)?;
+    let doctype = Span {
+        start: at + 9,
+        end: past - 1,
+    };
+    Ok(Opening {
+        end,
+        doctype: Some(doctype),
+    })
 }
 
 // [22] prolog
-pub fn read_prolog(s: &[u8], at: usize, names: Names) -> Prolog
-    ensures { result ≡ prolog_read (dialect names) s.now at }
+#[tactic(auto, using(crate::proofs::Prologs::prologs))]
+pub fn read_prolog(s: &[u8], at: usize, names: Names) -> Result<Opening, Fault>
+    ensures { opens result ≡ prolog_read (dialect names) s.now at }
 {
-    let r = read_opening(s, at, names);
-    match r {
-        Answer::At(i) => read_ending(s, i, names),
-        Answer::No(n, k) => Prolog::Refused(n, k),
-    }
+    let i = read_opening(s, at, names)?;
+    read_ending(s, i, names)
 }

@@ -9,8 +9,7 @@ use Rattle.spec.specs.Reading.Refusals.{too_deep}
 use Rattle.spec.specs.Reading.Dtd.{doctype_before}
 use Rattle.spec.specs.Reading.Readers.{Result, ok, err, Reader, on_ok, past, ◌>>◌, nothing}
 use Rattle.spec.proofs.Base.Sequences.{doctype_then}
-use Rattle.error.specs.Read.{Said, said, read, placed}
-use Rattle.error.specs.declared.Answer.{Answer}
+use Rattle.error.specs.Read.{Said, Answer, said, read, placed}
 
 -- nothing read after
 pub then_nothing : (A : Reader) (w : List ℕ) → A w ≡ (A >> nothing) w

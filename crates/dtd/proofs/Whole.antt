@@ -15,8 +15,11 @@ use Rattle.spec.specs.Reading.Source.{checked}
 use Rattle.spec.proofs.Division.Promised.{doctype_promise}
 use Rattle.spec.proofs.Dtd.Texts.{doctype_agrees}
 use Rattle.spec.proofs.Inside.Checks.{Placed, doctype_placed}
-use Rattle.error.specs.Read.{Said, read}
-use Rattle.source.proofs.Admitting.{call_refused, call_answered}
+use Rattle.std.specs.Prelude.{IsErrAnd}
+use Rattle.std.specs.Result.{result_from_control_flow}
+use Rattle.std.proofs.Common.{Break, Continue}
+use Rattle.error.specs.Read.{Said, Verdict, code, read}
+use Rattle.source.proofs.Admitting.{call_left, call_passed}
 use Rattle.source.proofs.Placing.{stopping}
 use Rattle.classes.specs.Classes.{dialect}
 use Rattle.classes.specs.declared.Names.{Names}
@@ -35,19 +38,20 @@ module _ (s : List ℕ) (at : ℕ) (a b : Bool) (e : a ≡ starts (ascii "SYSTEM
   unfolding read choose id_part
   id_no g h = rw (sym e, sym f, g) h
 
--- the public call by any edition's names, after admit: n is the number in front, and m the rule's own
-module _ (names : Names) (w : List ℕ) (n : ℕ) (e : n ≡ checked nothing w) where
+-- the public call by any edition's names, after admit, as `?` has it: r is what stands in front, b where it goes on or leaves, and q what is
+-- answered in the end
+module _ (names : Names) (w : List ℕ) (r : Verdict) (e : code r ≡ checked nothing w) where
   abbrev D : Dialect
   D = dialect names
 
   abbrev A : AsciiNames D
   A = dialect_ascii names
 
-  pub doctype_refused : (n ≡ 0 → ⊥) → ChecksDoctype D w n
-  doctype_refused z = doctype_promise D A w n (call_refused (check_doctype D) (doctypedecl D) w n (doctype_agrees D A) e z)
+  pub doctype_left : (b : _) (f : _) (q : Verdict) → r ≡ result_from_control_flow b → b ≡ Break f → IsErrAnd q (λ y. y ≡ f.0) → ChecksDoctype D w (code q)
+  doctype_left b f q g h k = doctype_promise D A w (code q) (call_left (check_doctype D) (doctypedecl D) w r e b f q g h k (doctype_agrees D A))
 
-  pub doctype_answered : (m : ℕ) → n ≡ 0 → m ≡ number_of (check_doctype D w) → ChecksDoctype D w m
-  doctype_answered m z f = doctype_promise D A w m (call_answered (check_doctype D) (doctypedecl D) w n m (doctype_agrees D A) e z f)
+  pub doctype_passed : (b : _) (u : Unit {0}) (q : Verdict) → r ≡ result_from_control_flow b → b ≡ Continue u → code q ≡ number_of (check_doctype D w) → ChecksDoctype D w (code q)
+  doctype_passed b u q g h k = doctype_promise D A w (code q) (call_passed (check_doctype D) (doctypedecl D) w r e b u q g h (doctype_agrees D A) k)
 
 -- and its places lie within the text
 pub whole_placed : (names : Names) → Placed (check_doctype (dialect names))
@@ -58,6 +62,6 @@ pub ruleset parts_read = (id_yes, id_no, read_last, reading)
 
 pub ruleset ending = (read_ended, reading)
 
-pub ruleset whole = (doctype_refused, doctype_answered, rules)
+pub ruleset whole = (doctype_left, doctype_passed, rules)
 
 pub ruleset located = (stopping, whole_placed)

@@ -3,7 +3,4 @@
 
 mod doctype;
 
-pub use doctype::{
-    check_doctype, check_doctype_at, check_doctype_fifth, check_doctype_fifth_at, doctype_number,
-    parse_before_end,
-};
+pub use doctype::{check_doctype, check_doctype_at, doctype_admitted, parse_before_end};

@@ -1,24 +1,48 @@
 -- What the first bytes of a document show. Assumes nothing.
 use mathlib.Core.Path.{◌≡◌, refl, sym, ap, ◌∙◌}
-use mathlib.Core.Bool.{Bool, true, false, ◌&&◌, ◌||◌}
+use mathlib.Core.Bool.{Bool, true, false, ◌&&◌, ◌||◌, true≢false}
 use mathlib.Core.List.{List, [], ◌∷◌}
 use Prim.Native.Nat.{ℕ}
 use borrow.Author.Rules.{rules}
 use lib.Dec.{eqb}
-use lib.ListN.{drop}
+use lib.ListN.{length, take}
+use lib.Pointwise.{pointwise}
+use Rattle.std.specs.Prelude.{Some, None}
 use Rattle.spec.specs.Basics.{pick}
 use Rattle.spec.specs.Grammar.Encodings as Rule
 use Rattle.spec.specs.Grammar.Encodings.{goes_on, anything, looks_like}
 use Rattle.spec.specs.Reading.Readers.{starts}
+use Rattle.spec.proofs.Base.Tests.{eqb-true, eqb_yes, eqb_no}
 use Rattle.encodings.specs.Codings.{width}
-use Rattle.encodings.specs.declared.wide.Wide.TheVariants.{Narrow, Utf16Be, Utf16Le, Utf32Be, Utf32Le}
+use Rattle.encodings.specs.declared.wide.Wide.TheVariants.{Utf16Be, Utf16Le, Utf32Be, Utf32Le}
 
--- a word stands first
+-- a word stands first, as starts_with says it and as the rule does
+same : (a b : ℕ) → eqb a b ≡ eqb b a
+same a b = go (eqb b a) refl
+  where
+    go : (t : Bool) → eqb b a ≡ t → eqb a b ≡ t
+    go true e = eqb_yes a b (sym (eqb-true b a e))
+    go false e = eqb_no a b (λ (z : a ≡ b). true≢false (sym (eqb_yes b a (sym z)) ∙ e))
+
+front : (p w : List ℕ) → pointwise eqb p (take (length p) w) ≡ starts p w
+unfolding starts
+front [] w = refl
+front (p ∷ ps) [] = refl
+front (p ∷ ps) (b ∷ w) = rw (same p b, front ps w)
+
 seen : (p w : List ℕ) → goes_on p anything w ≡ starts p w
 unfolding starts
 seen [] w = refl
 seen (p ∷ ps) [] = refl
 seen (p ∷ ps) (b ∷ w) = ap (λ (t : Bool). eqb b p && t) (seen ps w)
+
+-- one of two words: a is whether the first stands
+module _ (p q w : List ℕ) (a : Bool) (e : a ≡ pointwise eqb p (take (length p) w)) where
+  pub begins_first : a ≡ true → a ≡ (starts p w || starts q w)
+  begins_first f = f ∙ (rw (sym (front p w) ∙ sym e ∙ f))
+
+  pub begins_second : (b : Bool) → a ≡ false → b ≡ pointwise eqb q (take (length q) w) → b ≡ (starts p w || starts q w)
+  begins_second b f g = g ∙ front q w ∙ (rw (sym (front p w) ∙ sym e ∙ f))
 
 -- the four tests, in order: whether one of two words stands first
 abbrev stand : List ℕ → List ℕ → List ℕ → Bool
@@ -28,29 +52,31 @@ by_tests : (w : List ℕ) → looks_like w ≡ pick (stand (0 ∷ 0 ∷ 0xFE ∷
 unfolding looks_like
 by_tests w = simp seen
 
-module _ (w : List ℕ) (a1 b1 : Bool) (e1 : a1 ≡ starts (0 ∷ 0 ∷ 0xFE ∷ 0xFF ∷ []) (drop 0 w)) (f1 : b1 ≡ starts (0 ∷ 0 ∷ 0 ∷ 0x3C ∷ []) (drop 0 w)) where
-  pub looks_utf_32_be : (a1 || b1) ≡ true → width Utf32Be ≡ looks_like w
+module _ (w : List ℕ) (a : Bool) (e : a ≡ stand (0 ∷ 0 ∷ 0xFE ∷ 0xFF ∷ []) (0 ∷ 0 ∷ 0 ∷ 0x3C ∷ []) w) where
+  pub looks_utf_32_be : a ≡ true → width (Some Utf32Be) ≡ looks_like w
   unfolding width
-  looks_utf_32_be y = sym (by_tests w ∙ (rw (← e1, ← f1, y)))
+  looks_utf_32_be y = sym (by_tests w ∙ (rw (← e, y)))
 
-  module _ (n1 : (a1 || b1) ≡ false) (a2 b2 : Bool) (e2 : a2 ≡ starts (0xFF ∷ 0xFE ∷ 0 ∷ 0 ∷ []) (drop 0 w)) (f2 : b2 ≡ starts (0x3C ∷ 0 ∷ 0 ∷ 0 ∷ []) (drop 0 w)) where
-    pub looks_utf_32_le : (a2 || b2) ≡ true → width Utf32Le ≡ looks_like w
+  module _ (n : a ≡ false) (b : Bool) (f : b ≡ stand (0xFF ∷ 0xFE ∷ 0 ∷ 0 ∷ []) (0x3C ∷ 0 ∷ 0 ∷ 0 ∷ []) w) where
+    pub looks_utf_32_le : b ≡ true → width (Some Utf32Le) ≡ looks_like w
     unfolding width
-    looks_utf_32_le y = sym (by_tests w ∙ (rw (← e1, ← f1, n1, ← e2, ← f2, y)))
+    looks_utf_32_le y = sym (by_tests w ∙ (rw (← e, n, ← f, y)))
 
-    module _ (n2 : (a2 || b2) ≡ false) (a3 b3 : Bool) (e3 : a3 ≡ starts (0xFE ∷ 0xFF ∷ []) (drop 0 w)) (f3 : b3 ≡ starts (0 ∷ 0x3C ∷ []) (drop 0 w)) where
-      pub looks_utf_16_be : (a3 || b3) ≡ true → width Utf16Be ≡ looks_like w
+    module _ (m : b ≡ false) (c : Bool) (g : c ≡ stand (0xFE ∷ 0xFF ∷ []) (0 ∷ 0x3C ∷ []) w) where
+      pub looks_utf_16_be : c ≡ true → width (Some Utf16Be) ≡ looks_like w
       unfolding width
-      looks_utf_16_be y = sym (by_tests w ∙ (rw (← e1, ← f1, n1, ← e2, ← f2, n2, ← e3, ← f3, y)))
+      looks_utf_16_be y = sym (by_tests w ∙ (rw (← e, n, ← f, m, ← g, y)))
 
-      module _ (n3 : (a3 || b3) ≡ false) (a4 b4 : Bool) (e4 : a4 ≡ starts (0xFF ∷ 0xFE ∷ []) (drop 0 w)) (f4 : b4 ≡ starts (0x3C ∷ 0 ∷ []) (drop 0 w)) where
-        pub looks_utf_16_le : (a4 || b4) ≡ true → width Utf16Le ≡ looks_like w
+      module _ (l : c ≡ false) (d : Bool) (h : d ≡ stand (0xFF ∷ 0xFE ∷ []) (0x3C ∷ 0 ∷ []) w) where
+        pub looks_utf_16_le : d ≡ true → width (Some Utf16Le) ≡ looks_like w
         unfolding width
-        looks_utf_16_le y = sym (by_tests w ∙ (rw (← e1, ← f1, n1, ← e2, ← f2, n2, ← e3, ← f3, n3, ← e4, ← f4, y)))
+        looks_utf_16_le y = sym (by_tests w ∙ (rw (← e, n, ← f, m, ← g, l, ← h, y)))
 
-        pub looks_narrow : (a4 || b4) ≡ false → width Narrow ≡ looks_like w
+        pub looks_narrow : d ≡ false → width None ≡ looks_like w
         unfolding width
-        looks_narrow n4 = sym (by_tests w ∙ (rw (← e1, ← f1, n1, ← e2, ← f2, n2, ← e3, ← f3, n3, ← e4, ← f4, n4)))
+        looks_narrow y = sym (by_tests w ∙ (rw (← e, n, ← f, m, ← g, l, ← h, y)))
 
 -- what looks_like searches
 pub ruleset looking = (looks_utf_32_be, looks_utf_32_le, looks_utf_16_be, looks_utf_16_le, looks_narrow, rules)
+
+pub ruleset begun = (begins_first, begins_second, rules)

@@ -1,74 +1,82 @@
 -- Names of encodings, in small letters. Assumes nothing.
 use mathlib.Core.Path.{◌≡◌, refl, sym, ap, ◌∙◌}
-use mathlib.Core.Bool.{Bool, true, false, ◌&&◌, ◌||◌, or-false}
-use mathlib.Core.List.{List, [], ◌∷◌, ◌++◌}
-use Prim.Native.Nat.compare
+use mathlib.Core.Bool.{Bool, true, false, ◌&&◌, ◌||◌, true≢false}
+use mathlib.Core.List.{List, [], ◌∷◌, ◌++◌, map}
 use Prim.Native.Nat.{ℕ, zero, suc, ◌+◌, ◌<◌, ◌≤◌}
 use native.Mathlib.Omega.{arith}
 use borrow.Author.Rules.{rules}
-use borrow.Author.Tests.{eq-eqb, ne_eqb}
-use lib.Dec.{eqb}
-use lib.ListN.{length, get_or, drop, length-append}
-use lib.Seq.{drop-append_seam}
-use Rattle.spec.specs.Basics.{within}
+use denote.Ref.{Bor}
+use borrow.Author.Tests.{ltb-true, ltb-false}
+use lib.Dec.{eqb, ltb}
+use lib.ListN.{length, get_or, take, drop, length-append}
+use lib.Seq.{drop-append_seam, take-append_seam}
+use Rattle.std.specs.Prelude.{Option, Some, None, MatchOption, IsTrue, ◌↔◌}
+use Rattle.std.specs.Char.{to_ascii_lowercase}
+use Rattle.spec.specs.Basics.{pick, within}
 use Rattle.spec.specs.Grammar.Encodings.{small, goes_on, no_more, iso_part, windows_part, coding_of}
 use Rattle.spec.specs.Grammar.Languages.{ascii}
 use Rattle.spec.specs.Reading.Readers.{starts}
 use Rattle.spec.proofs.Agreement.Words.{starts_split}
-use Rattle.spec.proofs.Base.Places.{drop_at, drop_end}
-use Rattle.spec.proofs.Base.Tests.{within_yes, within_low, within_high, eqb_no}
-use Rattle.encodings.specs.Codings.{of, small_letter, lowered}
+use Rattle.spec.proofs.Base.Tests.{within_yes, within_low, within_high, within_lo, eqb-true, eqb_yes, eqb_no, and_left, and_right}
+use Rattle.encodings.specs.Codings.{of}
 use Rattle.encodings.specs.declared.codings.Coding.TheVariants.{Utf8, Bytes, Foreign}
 
--- one letter
-pub letter_low : (b : ℕ) → b < 65 → b ≡ small_letter b
-letter_low b h = sym (rw (within_low 0x41 0x5A b h))
+-- one letter, and a whole name
+lower_is : (b : ℕ) → to_ascii_lowercase b ≡ pick (within 0x41 0x5A b) (b + 32) b
+lower_is b = by_low (ltb b 65) refl
+  where
+    by_high : 65 ≤ b → (t : Bool) → ltb b 91 ≡ t → pick t (b + 32) b ≡ pick (within 0x41 0x5A b) (b + 32) b
+    by_high h true e = let l = ltb-true b 91 e in sym (rw (within_yes 0x41 0x5A b h (omega arith)))
+    by_high h false e = let l = ltb-false b 91 e in sym (rw (within_high 0x41 0x5A b (omega arith)))
 
-pub letter_high : (b : ℕ) → 90 < b → b ≡ small_letter b
-letter_high b h = sym (rw (within_high 0x41 0x5A b h))
+    by_low : (t : Bool) → ltb b 65 ≡ t → pick t b (pick (ltb b 91) (b + 32) b) ≡ pick (within 0x41 0x5A b) (b + 32) b
+    by_low true e = sym (rw (within_low 0x41 0x5A b (ltb-true b 65 e)))
+    by_low false e = by_high (ltb-false b 65 e) (ltb b 91) refl
 
-pub letter_small : (b : ℕ) → 65 ≤ b → b ≤ 90 → b + 32 ≡ small_letter b
-letter_small b h g = sym (rw (within_yes 0x41 0x5A b h g))
+small_is : (n : List ℕ) → map to_ascii_lowercase n ≡ small n
+small_is [] = refl
+small_is (b ∷ n) = rw (lower_is b, small_is n)
 
--- a whole name
 small_length : (n : List ℕ) → length (small n) ≡ length n
 small_length [] = refl
 small_length (b ∷ n) = ap suc (small_length n)
 
-small_getD : (n : List ℕ) (i : ℕ) → get_or (small n) i 0 ≡ small_letter (get_or n i 0)
-small_getD [] i = refl
-small_getD (b ∷ n) zero = refl
-small_getD (b ∷ n) (suc i) = small_getD n i
+small_take : (k : ℕ) (n : List ℕ) → take k (small n) ≡ small (take k n)
+small_take zero n = refl
+small_take (suc k) [] = refl
+small_take (suc k) (b ∷ n) = ap (λ (w : List ℕ). pick (within 0x41 0x5A b) (b + 32) b ∷ w) (small_take k n)
 
-lowered_length : (n : List ℕ) → length (lowered n) ≡ length n
-unfolding lowered
-lowered_length n = small_length n
+small_split : (k : ℕ) (n : List ℕ) → small n ≡ small (take k n) ++ small (drop k n)
+small_split zero n = refl
+small_split (suc k) [] = refl
+small_split (suc k) (b ∷ n) = ap (λ (w : List ℕ). pick (within 0x41 0x5A b) (b + 32) b ∷ w) (small_split k n)
 
-pub small_byte : (n : List ℕ) (i b c : ℕ) → b ≡ get_or n i 0 → c ≡ small_letter b → c ≡ get_or (lowered n) i 0
-unfolding lowered
-small_byte n i b c e f = f ∙ ap small_letter e ∙ sym (small_getD n i)
+fits : (p w : List ℕ) → starts p w ≡ true → length p ≤ length w
+fits p w e = let (v, f) = starts_split p w e in omega (arith, ap length f, length-append p v)
 
--- the front of a name, of which the word's first i bytes stand there
-module _ (kw n : List ℕ) (i : ℕ) (inv : starts (drop i kw) (drop i (lowered n)) ≡ starts kw (lowered n)) where
-  pub front_past : i < length kw → length n ≤ i → false ≡ starts kw (lowered n)
-  unfolding starts
-  front_past h k = rw (drop_at kw i h, drop_end (lowered n) i (rw lowered_length k)) at inv
+-- a word at the front of a name, as split_at_checked and eq_ignore_ascii_case say it
+pub front_short : (kw n : List ℕ) → length n < length kw → starts (small kw) (small n) ≡ false
+front_short kw n h = go (starts (small kw) (small n)) refl
+  where
+    go : (t : Bool) → starts (small kw) (small n) ≡ t → t ≡ false
+    go false e = refl
+    go true e = let z = fits (small kw) (small n) e in absurd (omega (arith, small_length kw, small_length n))
 
-  module _ (h : i < length kw) (k : i < length n) where
-    at_here : drop i (lowered n) ≡ get_or (lowered n) i 0 ∷ drop (i + 1) (lowered n)
-    at_here = drop_at (lowered n) i (rw lowered_length k)
+module _ (kw n : List ℕ) (front rest : List ℕ) (e : front ≡ take (length kw) n) (f : rest ≡ drop (length kw) n) (r : Bool) (g : IsTrue r ↔ (map to_ascii_lowercase front ≡ map to_ascii_lowercase kw)) where
+  pub front_same : r ≡ true → small n ≡ small kw ++ small rest
+  front_same y =
+      let z : small front ≡ small kw = sym (small_is front) ∙ g.0 y ∙ small_is kw in
+      small_split (length kw) n ∙ (rw (← e, ← f, z))
 
-    pub front_other : (b : ℕ) → b ≡ get_or (lowered n) i 0 → (b ≡ get_or kw i 0 → ⊥) → false ≡ starts kw (lowered n)
-    unfolding starts
-    front_other b e f = rw (drop_at kw i h, at_here, ← e, ne_eqb _ _ f) at inv
-
-    pub front_more : (b : ℕ) → b ≡ get_or (lowered n) i 0 → b ≡ get_or kw i 0 → starts (drop (i + 1) kw) (drop (i + 1) (lowered n)) ≡ starts kw (lowered n)
-    unfolding starts
-    front_more b e f = rw (drop_at kw i h, at_here, ← e, eq-eqb _ _ f) at inv
-
-  pub front_whole : length kw ≤ i → true ≡ starts kw (lowered n)
-  unfolding starts
-  front_whole h = rw (drop_end kw i h) at inv
+  pub front_other : length kw ≤ length n → r ≡ false → starts (small kw) (small n) ≡ false
+  front_other h y = go (starts (small kw) (small n)) refl
+    where
+      go : (t : Bool) → starts (small kw) (small n) ≡ t → t ≡ false
+      go false d = refl
+      go true d =
+          let (v, c) = starts_split (small kw) (small n) d in
+          let z : small front ≡ small kw = ap small e ∙ sym (small_take (length kw) n) ∙ ap (take (length kw)) c ∙ ap (λ (k : ℕ). take k (small kw ++ v)) (sym (small_length kw)) ∙ take-append_seam (small kw) v in
+          absurd (true≢false (sym (g.1 (small_is front ∙ z ∙ sym (small_is kw))) ∙ y))
 
 -- what stands after a word is what is left of it
 goes : (p : List ℕ) (test : List ℕ → Bool) (w : List ℕ) → goes_on p test w ≡ (starts p w && test (drop (length p) w))
@@ -81,81 +89,90 @@ goes (p ∷ ps) test (b ∷ w) = go (eqb b p) (goes ps test w)
     go true e = e
     go false e = refl
 
--- what is left of a word is nothing, where it is as long
-ended : (w : List ℕ) (k : ℕ) → k ≤ length w → no_more (drop k w) ≡ eqb (length w) k
-ended [] k h = let z : k ≡ 0 = omega arith in rw z
-ended (b ∷ w) zero h = sym (eqb_no (suc (length w)) 0 (λ (e : suc (length w) ≡ 0). omega arith))
-ended (b ∷ w) (suc k) h = ended w k (omega arith) ∙ (rw compare.suc-suc)
+-- what begins with a word begins with it
+starts_same : (p w : List ℕ) → starts p (p ++ w) ≡ true
+unfolding starts
+starts_same [] w = refl
+starts_same (a ∷ p) w = rw (eqb_yes a a refl) (starts_same p w)
 
-fits : (p w : List ℕ) → starts p w ≡ true → length p ≤ length w
-fits p w e = let (v, f) = starts_split p w e in omega (arith, ap length f, length-append p v)
+-- the parts that are too short or too long
+pub iso_none : (n : List ℕ) → length n < 1 → false ≡ iso_part (small n)
+iso_none [] h = refl
+iso_none (a ∷ n) h = absurd (omega arith)
 
--- The tests of a name, by its length and its bytes: f is whether the word stands first.
-pub word_is : (p n : List ℕ) (f : Bool) → f ≡ starts p (lowered n) → (f && eqb (length n) (length p)) ≡ goes_on p no_more (small n)
-unfolding lowered
-word_is p n f a = sym (goes p no_more (small n) ∙ (rw (← a) (go f refl)))
+pub iso_long : (n : List ℕ) → 3 ≤ length n → false ≡ iso_part (small n)
+iso_long [] h = refl
+iso_long (a ∷ []) h = absurd (omega arith)
+iso_long (a ∷ b ∷ []) h = absurd (omega arith)
+iso_long (a ∷ b ∷ d ∷ n) h = refl
+
+-- no capital letter is a '1' when small
+pub iso_other : (n : List ℕ) → 2 ≤ length n → (get_or n 0 0 ≡ 0x31 → ⊥) → false ≡ iso_part (small n)
+iso_other [] h f = refl
+iso_other (a ∷ []) h f = absurd (omega arith)
+iso_other (a ∷ b ∷ []) h f = go (within 0x41 0x5A a) refl
   where
-    go : (x : Bool) → f ≡ x → (x && no_more (drop (length p) (small n))) ≡ (x && eqb (length n) (length p))
-    go true y = ended (small n) (length p) (fits p (small n) (sym a ∙ y)) ∙ (rw small_length)
-    go false y = refl
+    go : (t : Bool) → within 0x41 0x5A a ≡ t → false ≡ (eqb (pick t (a + 32) a) 0x31 && within 0x30 0x36 (pick (within 0x41 0x5A b) (b + 32) b))
+    go true e = let l = within_lo 0x41 0x5A a e in rw (eqb_no (a + 32) 0x31 (λ (z : a + 32 ≡ 0x31). omega arith))
+    go false e = rw (eqb_no a 0x31 f)
+iso_other (a ∷ b ∷ d ∷ n) h f = refl
 
--- what is left of a name after a word, v, has the name's bytes
-module _ (p n : List ℕ) (test : List ℕ → Bool) (f r : Bool) (a : f ≡ starts p (small n)) where
-  by_rest : ((v : List ℕ) → small n ≡ p ++ v → r ≡ test v) → (f && r) ≡ goes_on p test (small n)
-  by_rest h = sym (goes p test (small n) ∙ (rw (← a) (go f refl)))
-    where
-      go : (x : Bool) → f ≡ x → (x && test (drop (length p) (small n))) ≡ (x && r)
-      go true y =
-          let (v, e) = starts_split p (small n) (sym a ∙ y) in
-          ap test (ap (drop (length p)) e ∙ drop-append_seam p v) ∙ sym (h v e)
-      go false y = refl
+pub windows_long : (n : List ℕ) → 2 ≤ length n → false ≡ windows_part (small n)
+windows_long [] h = refl
+windows_long (a ∷ []) h = absurd (omega arith)
+windows_long (a ∷ b ∷ n) h = refl
 
-iso_rest : (d e : ℕ) (v : List ℕ) → d ≡ get_or v 0 0 → e ≡ get_or v 1 0 → (eqb (9 + length v) 10 && within 0x31 0x39 d || eqb (9 + length v) 11 && (eqb d 0x31 && within 0x30 0x36 e)) ≡ iso_part v
-iso_rest d e [] f g = refl
-iso_rest d e (x ∷ []) f g = rw f (or-false (within 0x31 0x39 x))
-iso_rest d e (x ∷ y ∷ []) f g = rw (f, g)
-iso_rest d e (x ∷ y ∷ z ∷ v) f g =
-    rw (eqb_no (9 + suc (suc (suc (length v)))) 10 (λ h. omega arith), eqb_no (9 + suc (suc (suc (length v)))) 11 (λ h. omega arith))
+-- a name that is the word, and no more
+whole : (p : List ℕ) → goes_on p no_more p ≡ true
+whole [] = refl
+whole (a ∷ p) = rw (eqb_yes a a refl) (whole p)
 
-pub iso_is : (n : List ℕ) (f : Bool) (d e : ℕ) → f ≡ starts (ascii "iso-8859-") (lowered n) → d ≡ get_or (lowered n) 9 0 → e ≡ get_or (lowered n) 10 0
-    → (f && (eqb (length n) 10 && within 0x31 0x39 d || eqb (length n) 11 && (eqb d 0x31 && within 0x30 0x36 e))) ≡ goes_on (ascii "iso-8859-") iso_part (small n)
-unfolding lowered
-iso_is n f d e a b c =
-    by_rest (ascii "iso-8859-") n iso_part f _ a
-    (λ v g. let l : length n ≡ 9 + length v = sym (small_length n) ∙ ap length g ∙ length-append (ascii "iso-8859-") v in
-    rw l (iso_rest d e v (b ∙ ap (λ (w : List ℕ). get_or w 9 0) g) (c ∙ ap (λ (w : List ℕ). get_or w 10 0) g)))
+only : (p w : List ℕ) → goes_on p no_more w ≡ true → w ≡ p
+only [] [] e = refl
+only [] (b ∷ w) e = absurd (true≢false (sym e))
+only (a ∷ p) [] e = absurd (true≢false (sym e))
+only (a ∷ p) (b ∷ w) e = let y : b ≡ a = eqb-true b a (and_left (eqb b a) (goes_on p no_more w) e) in let z : w ≡ p = only p w (and_right (eqb b a) (goes_on p no_more w) e) in cc
 
-windows_rest : (d : ℕ) (v : List ℕ) → d ≡ get_or v 0 0 → (eqb (11 + length v) 12 && within 0x30 0x38 d) ≡ windows_part v
-windows_rest d [] f = refl
-windows_rest d (x ∷ []) f = rw f
-windows_rest d (x ∷ y ∷ v) f = rw (eqb_no (11 + suc (suc (length v))) 12 (λ h. omega arith))
+pub word_is : (p n : List ℕ) (r : Bool) → IsTrue r ↔ (map to_ascii_lowercase n ≡ map to_ascii_lowercase p) → r ≡ goes_on (small p) no_more (small n)
+word_is p n true g = let z : small n ≡ small p = sym (small_is n) ∙ g.0 refl ∙ small_is p in sym (rw z (whole (small p)))
+word_is p n false g = go (goes_on (small p) no_more (small n)) refl
+  where
+    go : (t : Bool) → goes_on (small p) no_more (small n) ≡ t → false ≡ t
+    go false e = refl
+    go true e = g.1 (small_is n ∙ only (small p) (small n) e ∙ sym (small_is p))
 
-pub windows_is : (n : List ℕ) (f : Bool) (d : ℕ) → f ≡ starts (ascii "windows-125") (lowered n) → d ≡ get_or (lowered n) 11 0
-    → (f && (eqb (length n) 12 && within 0x30 0x38 d)) ≡ goes_on (ascii "windows-125") windows_part (small n)
-unfolding lowered
-windows_is n f d a b =
-    by_rest (ascii "windows-125") n windows_part f _ a
-    (λ v g. let l : length n ≡ 11 + length v = sym (small_length n) ∙ ap length g ∙ length-append (ascii "windows-125") v in
-    rw l (windows_rest d v (b ∙ ap (λ (w : List ℕ). get_or w 11 0) g)))
+-- a name that goes on after the word, as the test of what is left says: P is what it answers there
+pub part_is : (kw n : List ℕ) (test : List ℕ → Bool) (r : Option (Bor (List ℕ))) (P : Bor (List ℕ) → Type 0) (x : Bool)
+    → MatchOption r (starts (small kw) (small n) ≡ false) (λ rest. small n ≡ small kw ++ small rest.now) → MatchOption r (x ≡ false) P → ((rest : Bor (List ℕ)) → P rest → x ≡ test (small rest.now))
+    → x ≡ goes_on (small kw) test (small n)
+part_is kw n test None P x a b f = b ∙ sym (goes (small kw) test (small n) ∙ (rw a))
+part_is kw n test (Some rest) P x a b f = f rest b ∙ sym (goes (small kw) test (small n) ∙ (rw (a, starts_same (small kw) (small rest.now)) (ap test (drop-append_seam (small kw) (small rest.now)))))
+
+-- one of two tests, the second asked where the first fails
+pub one_yes : (a x y : Bool) → a ≡ x → a ≡ true → a ≡ (x || y)
+one_yes a x y e f = f ∙ (rw (sym e ∙ f))
+
+pub one_no : (a b x y : Bool) → a ≡ x → a ≡ false → b ≡ y → b ≡ (x || y)
+one_no a b x y e f g = g ∙ (rw (sym e ∙ f))
 
 -- what a name stands for, by these tests
-module _ (n : List ℕ) (a b : Bool) (e : a ≡ goes_on (ascii "utf-8") no_more (small n)) (f : b ≡ goes_on (ascii "us-ascii") no_more (small n)) where
-  pub coding_utf8 : (a || b) ≡ true → of Utf8 ≡ coding_of n
+module _ (n : List ℕ) (a : Bool) (e : a ≡ (goes_on (ascii "utf-8") no_more (small n) || goes_on (ascii "us-ascii") no_more (small n))) where
+  pub coding_utf8 : a ≡ true → of Utf8 ≡ coding_of n
   unfolding of coding_of
-  coding_utf8 y = rw (← e, ← f, y)
+  coding_utf8 y = rw (← e, y)
 
-  module _ (y : (a || b) ≡ false) (c d : Bool) (g : c ≡ goes_on (ascii "iso-8859-") iso_part (small n)) (h : d ≡ goes_on (ascii "windows-125") windows_part (small n)) where
-    pub coding_bytes : (c || d) ≡ true → of Bytes ≡ coding_of n
+  module _ (y : a ≡ false) (b : Bool) (f : b ≡ (goes_on (ascii "iso-8859-") iso_part (small n) || goes_on (ascii "windows-125") windows_part (small n))) where
+    pub coding_bytes : b ≡ true → of Bytes ≡ coding_of n
     unfolding of coding_of
-    coding_bytes z = rw (← e, ← f, y, ← g, ← h, z)
+    coding_bytes z = rw (← e, y, ← f, z)
 
-    pub coding_foreign : (c || d) ≡ false → of Foreign ≡ coding_of n
+    pub coding_foreign : b ≡ false → of Foreign ≡ coding_of n
     unfolding of coding_of
-    coding_foreign z = rw (← e, ← f, y, ← g, ← h, z)
+    coding_foreign z = rw (← e, y, ← f, z)
 
 -- what the functions search
-pub ruleset letters = (letter_low, letter_high, letter_small, small_byte, rules)
+pub ruleset fronts = (front_short, front_same, front_other, rules)
 
-pub ruleset fronts = (front_past, front_other, front_more, front_whole, rules)
+pub ruleset parts = (iso_none, iso_long, iso_other, windows_long, rules)
 
-pub ruleset naming = (word_is, iso_is, windows_is, coding_utf8, coding_bytes, coding_foreign, rules)
+pub ruleset naming = (coding_utf8, coding_bytes, coding_foreign, rules)

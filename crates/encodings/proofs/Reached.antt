@@ -1,14 +1,18 @@
 -- The part of a text that is read, as the code finds it: in UTF-8 up to the first illegal character of what is UTF-8, in a class of ASCII
 -- as far as its bytes run. Assumes nothing.
 use mathlib.Core.Path.{◌≡◌, refl, sym, ap, ◌∙◌}
-use mathlib.Core.Bool.{Bool, true, false, ◌&&◌, true≢false}
+use mathlib.Core.Bool.{Bool, true, false, not, and-false, and-true, true≢false}
 use mathlib.Core.List.{List, [], ◌∷◌, ◌++◌}
 use Prim.Native.Nat.{ℕ, zero, suc, ◌+◌, ◌-◌, ◌<◌, ◌≤◌}
 use native.Mathlib.Omega.{arith}
 use borrow.Author.Rules.{rules}
+use borrow.Author.Tests.{ltb-false}
 use lib.Dec.{ltb}
-use lib.ListN.{length, get_or, take, drop, length-drop, length-append}
+use lib.ListN.{length, take, drop, length-drop, length-append}
 use lib.Seq.{take-length, take-append-add, drop_at}
+use Rattle.std.specs.Prelude.{Option, Some, None}
+use Rattle.std.specs.List.{position_or_len}
+use Rattle.std.specs.Option.{unwrap_or}
 use Rattle.spec.specs.Basics.{pick}
 use Rattle.spec.specs.Grammar.Characters.{xml_char}
 use Rattle.spec.specs.Grammar.Encodings.{in_bytes, foreign, class_of}
@@ -23,16 +27,15 @@ use Rattle.spec.specs.Reading.Wellformed.{legal_byte, check_chars}
 use Rattle.spec.proofs.Base.Loops.{through_end, through_none}
 use Rattle.spec.proofs.Base.Results.{ok_inj, one-add}
 use Rattle.spec.proofs.Base.Somes.{some_legal}
-use Rattle.spec.proofs.Base.Tests.{true→T, leb_true, and_right, not-true, not-false}
+use Rattle.spec.proofs.Base.Tests.{true→T, leb_true, and_right}
 use Rattle.spec.proofs.Characters.LegalBytes.{legal_here, tail_legal}
 use Rattle.spec.proofs.Characters.Utf8.{Read, encode_1, encode_nonempty, decode_read, decode_1, point_size}
 use Rattle.spec.proofs.Characters.Valid.{utf8_end, utf8_turn, utf8_stop, utf8_sound, utf8_complete, utf8_inside}
 use Rattle.spec.proofs.Inside.Ways.{stop_past}
 use Rattle.spec.proofs.Wellformed.LongestName.{chars, chars_turn, chars_stop, char_is, char_not, char_none}
 use Rattle.spec.proofs.Wellformed.Walks.{over_char}
-use Rattle.search.proofs.Runs.{run_end}
+use Rattle.spec.proofs.Base.Places.{run_within}
 use Rattle.utf8.specs.Seen.{accepts}
-use Rattle.cursor.proofs.Spaces.{class_stop, class_go}
 use Rattle.encodings.specs.Codings.{of}
 use Rattle.encodings.specs.declared.codings.Coding.{Coding}
 use Rattle.encodings.specs.declared.codings.Coding.TheVariants.{Utf8, Bytes, Foreign}
@@ -183,8 +186,11 @@ foreign_none w = run_legal (class_of foreign) (λ c e. absurd (true≢false (sym
     none [] = unfold run in refl
     none (b ∷ w) = unfold run in refl
 
-pub ascii_is : (b : ℕ) (t : Bool) → t ≡ xml_char b → (t && ltb b 0x80) ≡ class_of in_bytes b
-ascii_is b t e = rw e
+pub ascii_not : (b : ℕ) → ltb b 0x80 ≡ false → false ≡ class_of in_bytes b
+ascii_not b e = rw e (sym (and-false (xml_char b)))
+
+pub ascii_is : (b : ℕ) (t : Bool) → ltb b 0x80 ≡ true → t ≡ xml_char b → t ≡ class_of in_bytes b
+ascii_is b t e f = rw (e, f) (sym (and-true (xml_char b)))
 
 -- by the coding
 module _ (w : List ℕ) (coding : Coding) where
@@ -200,14 +206,23 @@ module _ (w : List ℕ) (coding : Coding) where
   unfolding of
   legal_foreign e = rw e (sym (foreign_none w))
 
--- a run of a class from the front, of which i is the next place
-pub run_whole : (p : ℕ → Bool) (s : List ℕ) (i : ℕ) → i + run p (drop i s) ≡ 0 + run p (drop 0 s) → length s ≤ i → i ≡ run p s
-run_whole p s i inv h = let z = run_end p s 0 i inv h in omega arith
+-- the first byte outside a class, or the end, as `position` and `unwrap_or` say it
+first_is : (p : ℕ → Bool) (w : List ℕ) → position_or_len (λ b. not (p b)) w ≡ run p w
+unfolding run
+first_is p [] = refl
+first_is p (b ∷ w) = go (p b) (first_is p w)
+  where
+    go : (t : Bool) → position_or_len (λ b. not (p b)) w ≡ run p w → pick (not (not t)) (1 + position_or_len (λ b. not (p b)) w) 0 ≡ pick t (suc (run p w)) 0
+    go true e = one-add (position_or_len (λ b. not (p b)) w) ∙ ap suc e
+    go false e = refl
 
-pub run_stopped : (p : ℕ → Bool) (s : List ℕ) (i : ℕ) (t : Bool) → i + run p (drop i s) ≡ 0 + run p (drop 0 s) → i < length s → t ≡ p (get_or s i 0) → t ≡ false → i ≡ run p s
-run_stopped p s i t inv h e f = let z = class_stop p s 0 i inv h t e f in omega arith
+pub run_is : (p : ℕ → Bool) (w : List ℕ) (r : Option ℕ)
+    → r ≡ pick (ltb (position_or_len (λ b. not (p b)) w) (length w)) (Some (position_or_len (λ b. not (p b)) w)) None → unwrap_or r (length w) ≡ run p w
+run_is p w r e = rw (e, first_is p w) (go (ltb (run p w) (length w)) refl)
+  where
+    go : (t : Bool) → ltb (run p w) (length w) ≡ t → unwrap_or (pick t (Some (run p w)) None) (length w) ≡ run p w
+    go true f = refl
+    go false f = let l = ltb-false (run p w) (length w) f in let m = run_within p w in omega arith
 
 -- what the functions search
-pub ruleset legal = (ascii_is, utf8_whole, utf8_part, utf8_within, legal_utf8, legal_bytes, legal_foreign, rules)
-
-pub ruleset running = (run_whole, run_stopped, class_go, not-true, not-false, rules)
+pub ruleset legal = (ascii_not, ascii_is, utf8_whole, utf8_part, utf8_within, legal_utf8, legal_bytes, legal_foreign, rules)

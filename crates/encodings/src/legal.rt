@@ -12,6 +12,7 @@ use chars::{chars_end, is_xml_char};
 use utf8::{is_valid, text_end};
 
 // In UTF-8. Two quick passes over the whole, where it is UTF-8; only where it is not, it is decoded up to there.
+#[tactic(auto, using(crate::proofs::Reached::legal))]
 fn utf8_end(text: &[u8]) -> usize
     ensures { result ≡ legal_length xml_char text.now }
 {
@@ -23,27 +24,24 @@ fn utf8_end(text: &[u8]) -> usize
 }
 
 // A Char of ASCII.
+#[tactic(auto, using(crate::proofs::Reached::legal))]
 fn is_ascii_char(b: u8) -> bool
     ensures { result ≡ class_of in_bytes b }
 {
-    is_xml_char(b as u32) & (b < 0x80)
+    b < 0x80 && is_xml_char(u32::from(b))
 }
 
 // In a coding that has only ASCII in common with UTF-8.
 fn ascii_end(text: &[u8]) -> usize
     ensures { result ≡ run (class_of in_bytes) text.now }
 {
-    let mut i: usize = 0;
-    while i < text.len() {
-        if !is_ascii_char(text[i]) {
-            return i;
-        }
-        i += 1;
-    }
-    i
+    text.iter()
+        .position(|&b| !is_ascii_char(b))
+        .unwrap_or(text.len())
 }
 
 // In any coding. Of a foreign one nothing is read.
+#[tactic(auto, using(crate::proofs::Reached::legal))]
 pub fn legal_end(text: &[u8], coding: Coding) -> usize
     ensures { result ≡ legal_length (class_of (of coding)) text.now }
 {

@@ -8,7 +8,7 @@ mod wide;
 mod xmldecl;
 
 pub use codings::{Coding, coding_of};
-pub use ends::end_number;
+pub use ends::end_refusal;
 pub use legal::legal_end;
 pub use wide::{Wide, looks_like};
-pub use xmldecl::{Named, coding_in, encoding_read, find_encoding};
+pub use xmldecl::{coding_in, encoding_read, find_encoding};

@@ -10,107 +10,80 @@ ghost use Rattle.encodings.specs.Names.{Declared, Names, told};
 use crate::codings::{Coding, coding_of};
 use checks::{is_declaration, parse_encoding_eq, parse_version};
 use cursor::skip_s;
-use error::Answer;
-use search::{Found, at_keyword, find, find_byte};
-
-// None, or the two ends of its name, [81] EncName.
-#[derive(Clone, Copy)]
-pub enum Named {
-    Unnamed,
-    Name(usize, usize),
-}
+use search::{at_keyword, find, find_byte};
+use source::Span;
 
 // Where the text of the declaration ends, that begins at the third byte: at its "?>", or at the text's end.
+#[tactic(auto, using(crate::proofs::Finding::reaching))]
 fn declared_end(x: &[u8]) -> usize
     ensures { Declared x.now result }
 {
-    let r = find(x, 2, b"?>");
-    match r {
-        Found::Here(j) => j,
-        Found::Nowhere => x.len(),
-    }
+    find(x, 2, b"?>").unwrap_or(x.len())
 }
 
 // The place after the version; where it can't be read, the place where the text begins, at which no encoding stands.
+#[tactic(auto, using(crate::proofs::Finding::reaching))]
 fn version_end(t: &[u8]) -> usize
     ensures { result ≡ 2 + taken (read_version (drop 2 t.now)) }
 {
-    let r = parse_version(t, 2);
-    match r {
-        Answer::At(i) => i,
-        Answer::No(_, _) => 2,
-    }
+    parse_version(t, 2).unwrap_or(2)
 }
 
 // The place of the quote mark before the name; where it can't be read up to there, the same place.
+#[tactic(auto, using(crate::proofs::Finding::reaching))]
 fn name_open(t: &[u8], at: usize) -> usize
     ensures { result ≡ at + taken (read_encoding (drop at t.now)) }
 {
-    let r = parse_encoding_eq(t, at);
-    match r {
-        Answer::At(i) => i,
-        Answer::No(_, _) => at,
-    }
+    parse_encoding_eq(t, at).unwrap_or(at)
 }
 
 // EncodingDecl? after the version: the name goes to the next quote mark of the same kind.
-fn named_after(t: &[u8], at: usize) -> Named
+#[tactic(auto, using(crate::proofs::Finding::valuing))]
+fn named_after(t: &[u8], at: usize) -> Option<Span>
     ensures { Names t.now (encoding_at at (drop at t.now)) result }
 {
     let i = skip_s(t, at);
     if !at_keyword(t, i, b"encoding") {
-        return Named::Unnamed;
+        return None;
     }
     let open = name_open(t, at);
     let start = open + 1;
     if t.len() <= open {
-        return Named::Name(start, start);
+        return Some(Span { start, end: start });
     }
-    let r = find_byte(t, start, t[open]);
-    match r {
-        Found::Here(end) => Named::Name(start, end),
-        Found::Nowhere => Named::Name(start, t.len()),
-    }
+    let end = find_byte(t, start, t[open]).unwrap_or(t.len());
+    Some(Span { start, end })
 }
 
-// The encoding that the XML declaration of x names, of a text that is accepted up to there.
-pub fn find_encoding(x: &[u8]) -> Named
+// Where the name, [81] EncName, of the encoding stands that the XML declaration of x names; of a text that is accepted up to there.
+#[tactic(auto, using(crate::proofs::Finding::finding))]
+pub fn find_encoding(x: &[u8]) -> Option<Span>
     ensures { told x.now result ≡ find_encoding x.now }
 {
     if !is_declaration(x, 0) {
-        return Named::Unnamed;
+        return None;
     }
-    let end = declared_end(x);
-    let at = version_end(&x[0..end]);
-    named_after(&x[0..end], at)
+    let t = &x[0..declared_end(x)];
+    named_after(t, version_end(t))
 }
 
 // The encoding that a document names. x is the part of it that is read in UTF-8, and the caller says whether its declaration is accepted:
 // of one that is refused none is looked for.
-pub fn encoding_read(x: &[u8], accepted: bool) -> Named
+#[tactic(auto, using(crate::proofs::Finding::finding))]
+pub fn encoding_read(x: &[u8], accepted: bool) -> Option<Span>
     ensures { told x.now result ≡ pick accepted (find_encoding x.now) unnamed }
 {
-    if accepted {
-        return find_encoding(x);
-    }
-    Named::Unnamed
+    if accepted { find_encoding(x) } else { None }
 }
 
 // What the name stands for; where none is named, UTF-8 (section 4.3.3). Any two places will do: an empty name is no encoding's.
-pub fn coding_in(x: &[u8], name: Named) -> Coding
+#[tactic(auto, using(crate::proofs::Finding::standing))]
+pub fn coding_in(x: &[u8], name: Option<Span>) -> Coding
     ensures { of result ≡ coding_in (told x.now name) }
 {
-    let Named::Name(start, end) = name else {
+    let Some(Span { start, end }) = name else {
         return Coding::Utf8;
     };
-    if end <= start {
-        return Coding::Foreign;
-    }
-    if x.len() <= start {
-        return Coding::Foreign;
-    }
-    if x.len() < end {
-        return coding_of(&x[start..]);
-    }
-    coding_of(&x[start..end])
+    x.get(start..end.min(x.len()))
+        .map_or(Coding::Foreign, coding_of)
 }

@@ -9,6 +9,7 @@ use borrow.Author.Rules.{rules}
 use mir.Syntax.{w64}
 use mir.Val.{Fits}
 use lib.ListN.{length, drop}
+use Rattle.std.specs.Prelude.{Option, Some, None}
 use Rattle.spec.specs.Grammar.Division.{Entry}
 use Rattle.spec.specs.Grammar.Languages.{one_of}
 use Rattle.spec.specs.Grammar.Names.{Dialect}
@@ -22,19 +23,17 @@ use Rattle.spec.proofs.Base.Places.{drop_end}
 use Rattle.spec.proofs.Division.Delimited.{from_end}
 use Rattle.spec.proofs.Division.Unread.{none_unread}
 use Rattle.search.specs.Places.{found, place_from}
-use Rattle.search.specs.declared.places.Found.{Found}
 use Rattle.search.proofs.Placing.{from_nowhere, from_here}
 use Rattle.entries.specs.Walk.{walk_start, after_open, unread_from, listed_by, Finds}
 use Rattle.entries.specs.declared.walk.Unread.{Unread}
-use Rattle.entries.specs.declared.walk.Unread.TheVariants.{Here, NoMore}
 
 -- Where the walk begins: o is what subset_open answered.
-module _ (s : List ℕ) (o : Found) (a : found o ≡ place_from subset_open s 0) where
-  pub start_none : o ≡ Found.Nowhere → length s ≡ walk_start s
+module _ (s : List ℕ) (o : Option ℕ) (a : found o ≡ place_from subset_open s 0) where
+  pub start_none : o ≡ None → length s ≡ walk_start s
   unfolding walk_start
   start_none b = rw (from_nowhere subset_open s 0 o a b)
 
-  module _ (i : ℕ) (b : o ≡ Found.Here i) where
+  module _ (i : ℕ) (b : o ≡ Some i) where
     open_at : subset_open s ≡ at i
     open_at = let (n, e, f) = from_here subset_open s 0 o a i b in let z : n ≡ i = omega arith in e ∙ ap at z
 
@@ -55,26 +54,26 @@ start_declares D s = go (subset_open s)
     go nowhere = sym (ap (entries_from D (length s)) (drop_end s (length s) (omega arith)) ∙ from_end D (length s))
 
 -- So many are counted up to i, and W in all; u is the next.
-module _ (D : Dialect) (s : List ℕ) (pe : Bool) (i n : ℕ) (u : Unread) (a : Finds D s pe i u) where
+module _ (D : Dialect) (s : List ℕ) (pe : Bool) (i n : ℕ) (r : Option Unread) (a : Finds D s pe i r) where
   module _ (W : ℕ) (c : n + length (unread_from D s pe i) ≡ W) where
-    pub count_end : u ≡ NoMore → n ≡ W
+    pub count_end : r ≡ None → n ≡ W
     count_end e = sym (ap (λ (es : List Entry). n + length es) (sym a.list ∙ ap (listed_by D s) e) ∙ add-zero n) ∙ c
 
-    pub count_go : (f p : ℕ) (used : Bool) → u ≡ Here f p used → n + 1 + length (unread_from D s used p) ≡ W
-    count_go f p used e =
-        let z : n + suc (length (unread_from D s used p)) ≡ W = sym (ap (λ (es : List Entry). n + length es) (sym a.list ∙ ap (listed_by D s) e)) ∙ c in
+    pub count_go : (u : Unread) → r ≡ Some u → n + 1 + length (unread_from D s u.pe_used u.past) ≡ W
+    count_go u e =
+        let z : n + suc (length (unread_from D s u.pe_used u.past)) ≡ W = sym (ap (λ (es : List Entry). n + length es) (sym a.list ∙ ap (listed_by D s) e)) ∙ c in
         omega arith
 
   -- no more than bytes were passed
-  module _ (f p : ℕ) (used : Bool) (e : u ≡ Here f p used) (l : n ≤ i) where
-    pub count_within : n + 1 ≤ p
-    count_within = let (x, y, z) = a.onward f p used e in omega arith
+  module _ (u : Unread) (e : r ≡ Some u) (l : n ≤ i) where
+    pub count_within : n + 1 ≤ u.past
+    count_within = let (x, y, z) = a.onward u e in omega arith
 
     pub count_fits : length s < 2 ^ 64 → Fits w64 (n + 1)
-    count_fits k = let (x, y, z) = a.onward f p used e in omega arith
+    count_fits k = let (x, y, z) = a.onward u e in omega arith
 
-pub count_less : (D : Dialect) (s : List ℕ) (pe : Bool) (i : ℕ) (u : Unread) (f p : ℕ) (used : Bool) → Finds D s pe i u → u ≡ Here f p used → length s - p < length s - i
-count_less D s pe i u f p used a e = let (x, y, z) = a.onward f p used e in omega arith
+pub count_less : (D : Dialect) (s : List ℕ) (pe : Bool) (i : ℕ) (r : Option Unread) (u : Unread) → Finds D s pe i r → r ≡ Some u → length s - u.past < length s - i
+count_less D s pe i r u a e = let (x, y, z) = a.onward u e in omega arith
 
 pub from_zero : (n : ℕ) → 0 + n ≡ n
 from_zero n = zero-add n

@@ -9,6 +9,7 @@ use mir.Syntax.{w64}
 use mir.Val.{Fits}
 use lib.ListN.{length, take, drop, length-drop}
 use lib.Seq.{slice, drop-drop, length-slice, take-take}
+use Rattle.std.specs.Prelude.{Option, Some, None, Ok, Err}
 use Rattle.spec.specs.Basics.{pick}
 use Rattle.spec.specs.Grammar.Characters.{space}
 use Rattle.spec.specs.Grammar.Division.{Kind, element, attlist, entity, notation, instruction, comment, reference, Entry, refers, keyword}
@@ -22,21 +23,27 @@ use Rattle.spec.proofs.Base.Places.{drop_take}
 use Rattle.spec.proofs.Division.Delimited.{entry_some, from_some, from_none}
 use Rattle.spec.proofs.Division.Unread.{entry_room}
 use Rattle.spec.proofs.Inside.Readers.{in_entry}
-use Rattle.error.specs.Read.{said, read}
-use Rattle.error.specs.declared.Answer.{Answer}
-use Rattle.error.specs.declared.Answer.TheVariants.{At, No}
+use Rattle.error.specs.Read.{said, read, Answer, refused}
+use Rattle.error.specs.declared.Fault.{Fault}
 use Rattle.error.proofs.Laws.{was_ok, was_err}
 use Rattle.entries.specs.Kinds.{kind_of, keyword_size, referred}
 use Rattle.entries.specs.Walk.{Holds, unread_there, unread_from, first_among, first_from, Finds}
 use Rattle.entries.specs.declared.kinds.Kind as Code
 use Rattle.entries.specs.declared.walk.Unread.{Unread}
-use Rattle.entries.specs.declared.walk.Unread.TheVariants.{Here, NoMore}
 
-none_here : {f p : ℕ} {used : Bool} → NoMore ≡ Here f p used → ⊥
+none_here : {u : Unread} → ◌≡◌ {A = Option Unread} None (Some u) → ⊥
 none_here e = let z : ◌≡◌ {A = ℕ} 0 1 = cc in omega arith
 
+first_of : Option Unread → ℕ
+first_of None = 0
+first_of (Some u) = u.first
+
+past_of : Option Unread → ℕ
+past_of None = 0
+past_of (Some u) = u.past
+
 -- The promise fixes the answer.
-pub fixed : (D : Dialect) (s : List ℕ) (pe : Bool) (i : ℕ) (r r' : Unread) → Finds D s pe i r → Finds D s pe i r' → r ≡ r'
+pub fixed : (D : Dialect) (s : List ℕ) (pe : Bool) (i : ℕ) (r r' : Option Unread) → Finds D s pe i r → Finds D s pe i r' → r ≡ r'
 fixed D s pe i r r' a b = a.answer ∙ sym b.answer
 
 -- what goes unread is no reference
@@ -125,19 +132,19 @@ module _ (D : Dialect) (s : List ℕ) (i here : ℕ) (h : here ≡ i + run space
   left : drop (run space (drop i s)) (drop i s) ≡ drop here s
   left = drop-drop (run space (drop i s)) i s ∙ ap (λ (n : ℕ). drop n s) (sym h)
 
-  met_none : (n k : ℕ) → r ≡ No n k → entries_from D i (drop i s) ≡ []
-  met_none n k e = let (m, (j, (f, g))) = was_err (one_entry D) s here n k r a e in from_none D i (drop i s) m j (ap (one_entry D) left ∙ f)
+  met_none : (x : Fault) → r ≡ Err x → entries_from D i (drop i s) ≡ []
+  met_none x e = let (m, (j, (f, g))) = was_err (one_entry D) s here x r a e in from_none D i (drop i s) m j (ap (one_entry D) left ∙ f)
 
   -- nothing goes unread from i on; the walk began at i₀
-  pub walk_none : (pe₀ pe : Bool) (i₀ n k : ℕ) → first_from D s pe i ≡ first_from D s pe₀ i₀ → unread_from D s pe i ≡ unread_from D s pe₀ i₀ → r ≡ No n k → Finds D s pe₀ i₀ NoMore
+  pub walk_none : (pe₀ pe : Bool) (i₀ : ℕ) (x : Fault) → first_from D s pe i ≡ first_from D s pe₀ i₀ → unread_from D s pe i ≡ unread_from D s pe₀ i₀ → r ≡ Err x → Finds D s pe₀ i₀ None
   unfolding first_from unread_from
-  walk_none pe₀ pe i₀ n k u v e = record {
-    answer = sym (ap (first_among D s pe) (met_none n k e)) ∙ u;
-    list = sym (ap (unread_entries D s pe) (met_none n k e)) ∙ v;
-    onward = λ f p used g. absurd (none_here g);
+  walk_none pe₀ pe i₀ x u v e = record {
+    answer = sym (ap (first_among D s pe) (met_none x e)) ∙ u;
+    list = sym (ap (unread_entries D s pe) (met_none x e)) ∙ v;
+    onward = λ u g. absurd (none_here g);
   }
 
-  module _ (j : ℕ) (e : r ≡ At j) where
+  module _ (j : ℕ) (e : r ≡ Ok j) where
     met_some : entries_from D i (drop i s) ≡ record { kind = kind_at (drop here s); first = here; past = j } ∷ entries_from D j (drop j s)
     met_some =
         let (k, (f, g)) = was_ok (one_entry D) s here j r a e in
@@ -179,7 +186,7 @@ module _ (D : Dialect) (s : List ℕ) (i here : ℕ) (h : here ≡ i + run space
         unfolding unread_there
         told = sym (t ∙ (rw g))
 
-        first_met : first_from D s pe i ≡ pick u (Here here j pe) (first_among D s (pe || refers (kind_at (drop here s))) (entries_from D j (drop j s)))
+        first_met : first_from D s pe i ≡ pick u (Some (record { first = here; past = j; pe_used = pe })) (first_among D s (pe || refers (kind_at (drop here s))) (entries_from D j (drop j s)))
         unfolding first_from
         first_met = ap (first_among D s pe) met_some ∙ (rw told)
 
@@ -187,7 +194,7 @@ module _ (D : Dialect) (s : List ℕ) (i here : ℕ) (h : here ≡ i + run space
         unfolding unread_from
         rest_met = ap (unread_entries D s pe) met_some ∙ (rw told)
 
-        pub walk_hit : (pe₀ : Bool) (i₀ : ℕ) → first_from D s pe i ≡ first_from D s pe₀ i₀ → unread_from D s pe i ≡ unread_from D s pe₀ i₀ → i₀ ≤ i → u ≡ true → Finds D s pe₀ i₀ (Here here j pe)
+        pub walk_hit : (pe₀ : Bool) (i₀ : ℕ) → first_from D s pe i ≡ first_from D s pe₀ i₀ → unread_from D s pe i ≡ unread_from D s pe₀ i₀ → i₀ ≤ i → u ≡ true → Finds D s pe₀ i₀ (Some (record { first = here; past = j; pe_used = pe }))
         unfolding unread_from
         walk_hit pe₀ i₀ x y l z = record {
           answer = sym (first_met ∙ (rw z)) ∙ x;
@@ -195,7 +202,7 @@ module _ (D : Dialect) (s : List ℕ) (i here : ℕ) (h : here ≡ i + run space
               let n : refers (kind_at (drop here s)) ≡ false = unread_refers D pe (kind_at (drop here s)) (slice here j s) (told ∙ z) in
               let m : (pe || refers (kind_at (drop here s))) ≡ pe = ap (λ (b : Bool). pe || b) n ∙ or-false pe in
               sym (rest_met ∙ (rw (z, m))) ∙ y;
-          onward = λ f p used q. let (b, c, d) = met_further in let m : here ≡ f = cc in let o : j ≡ p = cc in (omega arith, omega arith, omega arith);
+          onward = λ v q. let (b, c, d) = met_further in let m : here ≡ v.first = (unfold first_of in ap first_of q) in let o : j ≡ v.past = (unfold past_of in ap past_of q) in (omega arith, omega arith, omega arith);
         }
 
         module _ (z : u ≡ false) (pe' : Bool) (q : pe' ≡ referred pe (kind_of kind)) where
@@ -203,7 +210,7 @@ module _ (D : Dialect) (s : List ℕ) (i here : ℕ) (h : here ≡ i + run space
           unfolding referred
           on = q ∙ (rw g) ∙ or_comm (refers (kind_at (drop here s))) pe
 
-          pub walk_first : (F : Unread) → first_from D s pe i ≡ F → first_from D s pe' j ≡ F
+          pub walk_first : (F : Option Unread) → first_from D s pe i ≡ F → first_from D s pe' j ≡ F
           unfolding first_from
           walk_first F x = ap (λ (b : Bool). first_among D s b (entries_from D j (drop j s))) on ∙ sym (first_met ∙ (rw z)) ∙ x
 

@@ -1,5 +1,5 @@
 -- The walk over the entries, from one unread declaration to the next. Assumes nothing.
-use Rattle.std.specs.Prelude.{◌≡◌, Bool, ◌||◌, List, [], ◌∷◌, ℕ, ◌+◌, ◌≤◌, ◌<◌, length, drop}
+use Rattle.std.specs.Prelude.{Option, Some, None, ◌≡◌, Bool, ◌||◌, List, [], ◌∷◌, ℕ, ◌+◌, ◌≤◌, ◌<◌, length, drop}
 use Rattle.std.proofs.Math.Seq.{slice}
 use Rattle.spec.specs.Basics.{pick}
 use Rattle.spec.specs.Grammar.Division.{Kind, Entry, refers}
@@ -10,7 +10,6 @@ use Rattle.spec.specs.Reading.Scan.{subset_open}
 use Rattle.spec.specs.Unread.{goes_unread, unread_entries}
 use Rattle.entries.specs.Kinds.{keyword_size}
 use Rattle.entries.specs.declared.walk.Unread.{Unread}
-use Rattle.entries.specs.declared.walk.Unread.TheVariants.{Here, NoMore}
 
 -- where the entries of a text begin: after its first '[' outside quotes; at its end where there is none
 abbrev pub after_open : List ℕ → Place → ℕ
@@ -35,22 +34,22 @@ module _ (D : Dialect) where
   unread_from s pe i = unread_entries D s pe (entries_from D i (drop i s))
 
   -- the first of a list that does, and whether a reference came before it
-  abbrev pub first_among : List ℕ → Bool → List Entry → Unread
-  first_among s pe [] = NoMore
+  abbrev pub first_among : List ℕ → Bool → List Entry → Option Unread
+  first_among s pe [] = None
   first_among s pe (e ∷ es) =
-      pick (goes_unread D pe e.kind (slice e.first e.past s)) (Here e.first e.past pe) (first_among s (pe || refers e.kind) es)
+      pick (goes_unread D pe e.kind (slice e.first e.past s)) (Some (record { first = e.first; past = e.past; pe_used = pe })) (first_among s (pe || refers e.kind) es)
 
-  unfoldable pub first_from : List ℕ → Bool → ℕ → Unread
+  unfoldable pub first_from : List ℕ → Bool → ℕ → Option Unread
   first_from s pe i = first_among s pe (entries_from D i (drop i s))
 
   -- the list that an answer tells of: none; or an entry, and those that go unread after it
-  abbrev pub listed_by : List ℕ → Unread → List Entry
-  listed_by s NoMore = []
-  listed_by s (Here f p pe) = record { kind = kind_at (drop f s); first = f; past = p } ∷ unread_from s pe p
+  abbrev pub listed_by : List ℕ → Option Unread → List Entry
+  listed_by s None = []
+  listed_by s (Some u) = record { kind = kind_at (drop u.first s); first = u.first; past = u.past } ∷ unread_from s u.pe_used u.past
 
   -- the answer from a place on: it is the first that goes unread, it tells of the very list, and what it tells of lies further on in the
   -- text
-  pub record Finds (s : List ℕ) (pe : Bool) (i : ℕ) (r : Unread) : Type 0 where
+  pub record Finds (s : List ℕ) (pe : Bool) (i : ℕ) (r : Option Unread) : Type 0 where
     pub answer : r ≡ first_from s pe i
     pub list : listed_by s r ≡ unread_from s pe i
-    pub onward : (f p : ℕ) (used : Bool) → r ≡ Here f p used → (i ≤ f) × (f < p) × (p ≤ length s)
+    pub onward : (u : Unread) → r ≡ Some u → (i ≤ u.first) × (u.first < u.past) × (u.past ≤ length s)

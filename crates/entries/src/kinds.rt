@@ -1,4 +1,5 @@
 // What an entry of the subset is, and where it ends.
+// Text, place and names stay three parameters (classes/src/lib.rt says why).
 ghost use Rattle.std.specs.Prelude.{◌≡◌, drop};
 ghost use Rattle.spec.specs.Reading.Entries.{kind_at, one_entry};
 ghost use Rattle.error.specs.Read.{said, read};
@@ -12,7 +13,7 @@ use search::at_keyword;
 use subset::parse_markup_decl;
 
 // [45], [52], [70], [82], [16], [15], [69]
-#[derive(Clone, Copy)]
+#[derive(Clone, Copy, Debug, PartialEq, Eq)]
 pub enum Kind {
     Element,
     Attlist,
@@ -24,6 +25,7 @@ pub enum Kind {
 }
 
 // The kind of the entry that begins at `at`, by what it begins with. Where no entry begins, this means nothing.
+#[tactic(auto, using(crate::proofs::Naming::kinds))]
 pub fn kind_at(s: &[u8], at: usize) -> Kind
     ensures { kind_of result ≡ kind_at (drop at s.now) }
 {
@@ -49,6 +51,7 @@ pub fn kind_at(s: &[u8], at: usize) -> Kind
 }
 
 // Where it ends, or a refusal where no entry begins. A body is only delimited: it was read when the text was accepted.
+#[tactic(auto, using(crate::proofs::Naming::ends), unfolding(spec::specs::Reading::Readers::on))]
 pub fn entry_end(s: &[u8], at: usize, names: Names) -> Answer
     ensures { said result ≡ read (one_entry (dialect names)) s.now at }
 {
@@ -74,16 +77,17 @@ pub fn keyword_size(kind: Kind) -> usize
 }
 
 // Whether a parameter-entity reference came before what follows an entry.
+#[tactic(auto, using(crate::proofs::Naming::sizes), unfolding(crate::specs::Kinds::kind_of, crate::specs::Kinds::referred))]
 pub fn referred(pe_used: bool, kind: Kind) -> bool
     ensures { result ≡ referred pe_used (kind_of kind) }
 {
     match kind {
-        Kind::Element => pe_used,
-        Kind::Attlist => pe_used,
-        Kind::Entity => pe_used,
-        Kind::Notation => pe_used,
-        Kind::Instruction => pe_used,
-        Kind::Comment => pe_used,
         Kind::Reference => true,
+        Kind::Element
+        | Kind::Attlist
+        | Kind::Entity
+        | Kind::Notation
+        | Kind::Instruction
+        | Kind::Comment => pe_used,
     }
 }

@@ -1,4 +1,5 @@
 // The walk from one unread declaration to the next.
+// Text, place and names stay three parameters (classes/src/lib.rt says why).
 ghost use Rattle.std.specs.Prelude.{◌≡◌};
 ghost use Rattle.classes.specs.Classes.{dialect};
 ghost use Rattle.entries.specs.Kinds.{kind_of};
@@ -11,15 +12,17 @@ use error::Answer;
 use markup::has_pe_reference;
 
 // An unread declaration: its first byte, one past its last, and whether a parameter-entity reference came before it between
-// declarations, with which the walk goes on at the second number.
-#[derive(Clone, Copy)]
-pub enum Unread {
-    Here(usize, usize, bool),
-    NoMore,
+// declarations, with which the walk goes on at the second place.
+#[derive(Clone, Copy, Debug, PartialEq, Eq)]
+pub struct Unread {
+    pub first: usize,
+    pub past: usize,
+    pub pe_used: bool,
 }
 
 // Whether the entry from `first` to `past` is a declaration that goes unread: the instructions and comments between declarations, and
 // the references themselves, never do.
+#[tactic(auto, using(crate::proofs::Walking::telling))]
 fn is_unread(s: &[u8], first: usize, past: usize, kind: Kind, pe_used: bool, names: Names) -> bool
     requires { Holds (kind_of kind) s.now first past }
     ensures { result ≡ unread_there (dialect names) pe_used (kind_of kind) s.now first past }
@@ -37,20 +40,24 @@ fn is_unread(s: &[u8], first: usize, past: usize, kind: Kind, pe_used: bool, nam
 }
 
 // The first declaration from `at` on that goes unread, where `pe_used` says whether a reference came before `at`.
-pub fn next_unread(s: &[u8], at: usize, pe_used: bool, names: Names) -> Unread
+#[tactic(auto, using(crate::proofs::Walking::walking))]
+pub fn next_unread(s: &[u8], at: usize, pe_used: bool, names: Names) -> Option<Unread>
     ensures { Finds (dialect names) s.now pe_used at result }
 {
     let mut pe = pe_used;
     let mut i = at;
     loop {
         let here = skip_s(s, i);
-        let r = entry_end(s, here, names);
-        let Answer::At(j) = r else {
-            return Unread::NoMore;
+        let Ok(j) = entry_end(s, here, names) else {
+            return None;
         };
         let kind = kind_at(s, here);
         if is_unread(s, here, j, kind, pe, names) {
-            return Unread::Here(here, j, pe);
+            return Some(Unread {
+                first: here,
+                past: j,
+                pe_used: pe,
+            });
         }
         pe = referred(pe, kind);
         i = j;

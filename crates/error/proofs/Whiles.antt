@@ -7,11 +7,11 @@ use native.Mathlib.Nat.{add-zero}
 use native.Mathlib.Omega.{arith}
 use borrow.Author.Rules.{rules}
 use lib.ListN.{length, drop, length-drop}
+use Rattle.std.specs.Prelude.{Ok, Err}
 use Rattle.spec.specs.Reading.Readers.{Result, ok, err, Reader, ◌>>◌, while}
 use Rattle.spec.proofs.Base.Loops.{Somes, while_turn, while_stop, while_refused}
-use Rattle.error.specs.Read.{Said, said, read, placed}
-use Rattle.error.specs.declared.Answer.{Answer}
-use Rattle.error.specs.declared.Answer.TheVariants.{At, No}
+use Rattle.error.specs.Read.{Said, Answer, said, read, placed}
+use Rattle.error.specs.declared.Fault.{Fault}
 use Rattle.spec.proofs.Base.Sequences.{then_then}
 use Rattle.error.proofs.Laws.{was_ok, seq_no, seq_at}
 
@@ -41,7 +41,7 @@ while_first t r B s i b q ends some e f a = a ∙ ap (placed i) (unroll_then t r
 -- The invariant: what is said from i on is W, what is said of the whole. b is what the code's test says at i.
 module _ (t : List ℕ → Bool) (r B : Reader) (s : List ℕ) (i : ℕ) (W : Said) (inv : read (while t r >> B) s i ≡ W) (b : Bool) (e : b ≡ t (drop i s)) where
   pub while_end : (q : Said) → b ≡ false → q ≡ read B s i → q ≡ W
-  while_end q f a = seq_at (while t r) B s i i (At i) q (unfold read said in (rw (while_stop t r (drop i s) (sym e ∙ f), add-zero))) refl a ∙ inv
+  while_end q f a = seq_at (while t r) B s i i (Ok i) q (unfold read said in (rw (while_stop t r (drop i s) (sym e ∙ f), add-zero))) refl a ∙ inv
 
   module _ (f : b ≡ true) (ends : t [] ≡ false) where
     inside : i < length s
@@ -55,19 +55,19 @@ module _ (t : List ℕ → Bool) (r B : Reader) (s : List ℕ) (i : ℕ) (W : Sa
       turned : read (r >> while t r >> B) s i ≡ W
       turned = sym (while_first t r B s i b _ ends some e f refl) ∙ inv
 
-      pub while_no : (n k : ℕ) (a : Answer) → a ≡ No n k → said a ≡ read r s i → said a ≡ W
-      while_no n k a g h = seq_no r (while t r >> B) s i n k a h g ∙ turned
+      pub while_no : (x : Fault) (a : Answer) → said a ≡ read r s i → a ≡ Err x → said (Err x) ≡ W
+      while_no x a h g = seq_no r (while t r >> B) s i x a h g ∙ turned
 
-      pub while_err : (n k : ℕ) → said (No n k) ≡ read r s i → said (No n k) ≡ W
-      while_err n k h = while_no n k (No n k) refl h
+      pub while_err : (x : Fault) → said (Err x) ≡ read r s i → said (Err x) ≡ W
+      while_err x h = while_no x (Err x) h refl
 
-      module _ (j : ℕ) (h : said (At j) ≡ read r s i) where
+      module _ (j : ℕ) (h : said (Ok j) ≡ read r s i) where
         pub while_go : read (while t r >> B) s j ≡ W
-        while_go = seq_at r (while t r >> B) s i j (At j) _ h refl refl ∙ turned
+        while_go = seq_at r (while t r >> B) s i j (Ok j) _ h refl refl ∙ turned
 
         pub while_less : length s - j < length s - i
         while_less =
-            let (k, (g, l)) = was_ok r s i j (At j) h refl in
+            let (k, (g, l)) = was_ok r s i j (Ok j) h refl in
             let z : 0 < k = turn_some t r ends some (drop i s) k (sym e ∙ f) g in
             let y = inside in
             omega arith

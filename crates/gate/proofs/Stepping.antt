@@ -1,57 +1,40 @@
--- What the steps search. Each law is one way through a step, and its premises are the tests and the calls on that way. Assumes nothing.
+-- What the calls search. Each law is one way through a call, and its premises are the tests and the calls on that way. Assumes nothing.
 use mathlib.Core.Path.{◌≡◌, refl, sym, ap, ◌∙◌}
-use mathlib.Core.Bool.{Bool, true, false, ◌||◌, not}
+use mathlib.Core.Bool.{Bool, true, false, ◌||◌, not, true≢false}
 use mathlib.Core.List.{List}
 use Prim.Native.Nat.{ℕ, zero, suc, ◌+◌, ◌<◌, ◌≤◌}
+use native.Mathlib.Omega.{arith}
+use Rattle.std.proofs.lemmas.Bool.{cases_lt}
+use Rattle.std.proofs.Common.{◌⊎◌, inl, inr, min, ltb, ◌^◌, ◌-◌}
 use borrow.Author.Rules.{rules}
 use borrow.Author.Tests.{le-ltb, lt-ltb}
 use lib.Dec.{eqb}
+use Rattle.std.specs.Prelude.{Result, Ok, Err, IsErrAnd}
+use Rattle.std.specs.Result.{is_err, result_from_control_flow}
+use Rattle.std.proofs.Common.{Break, Continue}
+use Rattle.std.proofs.lemmas.Result.{err_from_is_err_and}
 use Rattle.spec.specs.Basics.{pick}
 use Rattle.spec.specs.Grammar.AppendixB.{appendix_b}
 use Rattle.spec.specs.Reading.Checks.{check_declaration}
 use Rattle.spec.specs.Reading.Dtd.{check_doctype}
 use Rattle.spec.specs.Reading.Gate as G
-use Rattle.spec.specs.Reading.Gate.{Record, Outcome, says_open, says, one_more, leave_open, answered, unless, by_scan}
+use Rattle.spec.specs.Reading.Gate.{Record, Outcome, says_open, says, one_more, answered, unless}
 use Rattle.spec.specs.Reading.Readers.{number_of, nothing}
+use Rattle.spec.specs.Reading.Refusals.{number}
 use Rattle.spec.specs.Reading.Scan as Rule
 use Rattle.spec.specs.Reading.Scan.{Scan, scan}
 use Rattle.spec.specs.Reading.Source.{checked}
 use Rattle.spec.specs.Reading.Wellformed.{check_chars}
+use Rattle.spec.proofs.Base.Results.{number_pos}
+use Rattle.error.specs.Read.{Verdict, code, reason}
+use Rattle.error.specs.declared.refusal.Refusal.{Refusal}
 use Rattle.scan.specs.declared.calls.Scanned.{Scanned}
-use Rattle.scan.specs.Answers.{gives, scan_gives}
-use Rattle.gate.specs.declared.state.Gate.{Gate}
-use Rattle.gate.specs.declared.state.Reply.TheVariants.{Open, Number}
-use Rattle.gate.specs.declared.state.Docked.{Docked}
-use Rattle.gate.specs.Promises.{recorded, docked, numbered, unclosed, scan_decides, Declares, Docks}
-
--- the count, below its limit and at it
-pub more_below : (n : ℕ) → n < 65_535 → n + 1 ≡ one_more n
-unfolding one_more
-more_below n h = rw (lt-ltb n 65_535 h)
-
-pub more_held : (n : ℕ) → 65_535 ≤ n → 65_535 ≡ one_more n
-unfolding one_more
-more_held n h = rw (le-ltb n 65_535 h)
-
--- what is counted: 0 is no refusal, each other number is one
-pub count_none : (g : Gate) (n : ℕ) → n ≡ 0 → recorded g ≡ (numbered g n).left
-unfolding numbered
-count_none g n z = rw z
-
-pub count_one : (g : Gate) (n k : ℕ) → (n ≡ 0 → ⊥) → k ≡ one_more g.refused → recorded (record { started = g.started; seen = g.seen; «open» = g.«open»; refused = k }) ≡ (numbered g n).left
-unfolding numbered recorded
-count_one g zero k z e = absurd (z refl)
-count_one g (suc n) k z e = rw e
-
--- a number is the answer, refused or not
-answer_is : (g : Record) (n : ℕ) → says n ≡ (answered g n).answer
-answer_is g zero = refl
-answer_is g (suc n) = refl
-
--- a check in front of the rest
-stops : (n : ℕ) (g : Record) (rest : Outcome) → (n ≡ 0 → ⊥) → answered g n ≡ unless n g rest
-stops zero g rest z = absurd (z refl)
-stops (suc n) g rest z = refl
+use Rattle.scan.specs.declared.calls.Scanned.TheVariants.{NotOpened, NotClosed, Closed}
+use Rattle.scan.specs.Answers.{scan_of}
+use Rattle.gate.specs.declared.record.Gate.{Gate}
+use Rattle.gate.specs.declared.record.Docked.{Docked}
+use Rattle.gate.specs.declared.record.Docked.TheVariants.{Whole, Open}
+use Rattle.gate.specs.Promises.{recorded, replied, numbered, answered_by, Declares, Docks}
 
 -- the record after something was read, and after a DOCTYPE was seen
 abbrev begun : Gate → Gate
@@ -60,71 +43,166 @@ begun g = record { started = true; seen = g.seen; «open» = g.«open»; refused
 abbrev met : Gate → Gate
 met g = record { started = true; seen = true; «open» = g.«open»; refused = g.refused }
 
--- `decl`: m is counted on the record k, which is left as h
-given : (g k h : Gate) (w : List ℕ) (m : ℕ) → numbered k m ≡ G.decl (recorded g) w → recorded h ≡ (numbered k m).left → Declares g w h m
-unfolding numbered
-given g k h w m e f = record { answer = answer_is (recorded k) m ∙ ap (λ (o : Outcome). o.answer) e; left = f ∙ ap (λ (o : Outcome). o.left) e }
+abbrev opened : Gate → Gate
+opened g = record { started = true; seen = true; «open» = true; refused = g.refused }
 
--- n is what admit gave
-module _ (g : Gate) (w : List ℕ) (n : ℕ) (a : n ≡ checked nothing w) where
-  pub decl_refused : (h : Gate) → (n ≡ 0 → ⊥) → recorded h ≡ (numbered g n).left → Declares g w h n
-  decl_refused h z = given g g h w n (unfold numbered G.decl in rw (sym a) (stops n (recorded g) _ z))
+-- a refusal is counted, and nothing else
+refusal_counts : (g : Record) (x : Refusal) → (answered g (number (reason x))).left ≡ G.count g
+refusal_counts g x = go (number (reason x)) (number_pos (reason x))
+  where
+    go : (n : ℕ) → 0 < n → (answered g n).left ≡ G.count g
+    go zero h = absurd (omega arith)
+    go (suc n) h = refl
 
-  pub decl_late : (h : Gate) → n ≡ 0 → g.started ≡ true → recorded h ≡ (numbered g 21).left → Declares g w h 21
-  decl_late h z t = given g g h w 21 (unfold numbered G.decl recorded in rw (sym a, z, t))
+answer_is : (g : Record) (n : ℕ) → says n ≡ (answered g n).answer
+answer_is g zero = refl
+answer_is g (suc n) = refl
 
-  pub decl_first : (h : Gate) (m : ℕ) → n ≡ 0 → g.started ≡ false → m ≡ number_of (check_declaration w) → recorded h ≡ (numbered (begun g) m).left → Declares g w h m
-  decl_first h m z t e = given g (begun g) h w m (unfold numbered G.decl recorded in rw (sym a, z, t, e))
+-- `decl`: k is the record without the count
+module _ (g k h : Gate) (w : List ℕ) (v : Verdict) (e : numbered k (code v) ≡ G.decl (recorded g) w) where
+  declares : recorded h ≡ (answered (recorded k) (code v)).left → Declares g w h (code v)
+  unfolding numbered
+  declares f = record { answer = answer_is (recorded k) (code v) ∙ ap (λ (o : Outcome). o.answer) e; left = f ∙ ap (λ (o : Outcome). o.left) e }
 
--- `doctype`: a number as the reply
-pub reply_is : (g h : Gate) (n : ℕ) → recorded h ≡ (numbered g n).left → docked (record { gate = h; reply = Number n }) ≡ numbered g n
-unfolding docked numbered
-reply_is g h zero f = rw f
-reply_is g h (suc n) f = rw f
-
--- s is what the scan gave, and b whether it is "not closed"
-module _ (g : Gate) (w : List ℕ) (s : Scanned) (b : Bool) (a : scan_gives s ≡ gives (scan w)) (e : b ≡ unclosed (scan_gives s)) where
-  -- so it is answered "open", or the whole check decides
-  decided : (x : Bool) → b ≡ x → scan_decides g w ≡ pick x (record { left = leave_open (recorded g); answer = says_open }) (numbered g (number_of (check_doctype appendix_b w)))
-  unfolding scan_decides unclosed numbered
-  decided x t = go (scan w) (sym t ∙ e ∙ ap unclosed a)
+  pub decl_counted : is_err v ≡ true → recorded h ≡ G.count (recorded k) → Declares g w h (code v)
+  decl_counted t f = declares (f ∙ go v t)
     where
-      go : (y : Scan) → x ≡ unclosed (gives y) → by_scan appendix_b y (recorded g) w ≡ pick x (record { left = leave_open (recorded g); answer = says_open }) (answered (recorded g) (number_of (check_doctype appendix_b w)))
-      go Rule.not_opened f = rw f
-      go Rule.not_closed f = rw f
-      go (Rule.closed i) f = rw f
+      go : (v : Verdict) → is_err v ≡ true → G.count (recorded k) ≡ (answered (recorded k) (code v)).left
+      go (Ok u) t = absurd (true≢false (sym t))
+      go (Err x) t = sym (refusal_counts (recorded k) x)
 
-  pub scan_open : b ≡ true → docked (record { gate = record { started = g.started; seen = g.seen; «open» = true; refused = g.refused }; reply = Open }) ≡ scan_decides g w
-  unfolding docked recorded
-  scan_open t = sym (decided true t)
+pub decl_kept : (g k : Gate) (w : List ℕ) (v : Verdict) → numbered k (code v) ≡ G.decl (recorded g) w → is_err v ≡ false → Declares g w k (code v)
+decl_kept g k w v e t = declares g k k w v e (go v t)
+  where
+    go : (v : Verdict) → is_err v ≡ false → recorded k ≡ (answered (recorded k) (code v)).left
+    go (Ok u) t = refl
+    go (Err x) t = absurd (true≢false t)
 
-  pub scan_other : (m : ℕ) (d : Docked) → b ≡ false → m ≡ number_of (check_doctype appendix_b w) → docked d ≡ numbered g m → docked d ≡ scan_decides g w
-  scan_other m d t f h = h ∙ ap (numbered g) f ∙ sym (decided false t)
+-- a check in front of the rest
+stops : (x : Refusal) (g : Record) (rest : Outcome) → answered g (number (reason x)) ≡ unless (number (reason x)) g rest
+stops x g rest = go (number (reason x)) (number_pos (reason x))
+  where
+    go : (n : ℕ) → 0 < n → answered g n ≡ unless n g rest
+    go zero h = absurd (omega arith)
+    go (suc n) h = refl
 
--- what the step gives is what it promises
-docks : (g : Gate) (phase : ℕ) (w : List ℕ) (d : Docked) (o : Outcome) → docked d ≡ o → o ≡ G.doctype appendix_b (recorded g) phase w → Docks g phase w d.gate d.reply
-unfolding docked
-docks g phase w d o e f = record { answer = ap (λ (o : Outcome). o.answer) (e ∙ f); left = ap (λ (o : Outcome). o.left) (e ∙ f) }
+-- a is what admit gave, and b where `?` goes on or leaves after it
+module _ (g : Gate) (w : List ℕ) (a : Verdict) (c : code a ≡ checked nothing w) (b : _) (p : a ≡ result_from_control_flow b) where
+  module _ (f : _) (t : b ≡ Break f) where
+    front : number (reason f.0) ≡ checked nothing w
+    front = sym (ap code (p ∙ ap result_from_control_flow t)) ∙ c
 
-module _ (g : Gate) (phase : ℕ) (w : List ℕ) (n : ℕ) (a : n ≡ checked nothing w) (d : Docked) where
-  pub dock_refused : (n ≡ 0 → ⊥) → docked d ≡ numbered g n → Docks g phase w d.gate d.reply
-  dock_refused z f = docks g phase w d (numbered g n) f (unfold numbered G.doctype in rw (sym a) (stops n (recorded g) _ z))
+    pub decl_refused : (q : Verdict) → IsErrAnd q (λ y. y ≡ f.0) → numbered g (code q) ≡ G.decl (recorded g) w
+    unfolding numbered G.decl
+    decl_refused q k = let z = err_from_is_err_and q k in rw (z.1, z.2, ← front) (stops f.0 (recorded g) _)
 
-  -- m is what the character check gave
-  module _ (m : ℕ) (z : n ≡ 0) (b : m ≡ number_of (check_chars w)) where
-    pub dock_char : (m ≡ 0 → ⊥) → docked d ≡ numbered (begun g) m → Docks g phase w d.gate d.reply
-    dock_char y f = docks g phase w d (numbered (begun g) m) f (unfold numbered G.doctype recorded in rw (sym a, z, sym b) (stops m (recorded (begun g)) _ y))
+    pub dock_refused : (phase : ℕ) (q : Result Docked Refusal) → IsErrAnd q (λ y. y ≡ f.0) → answered_by g q ≡ G.doctype appendix_b (recorded g) phase w
+    unfolding answered_by numbered G.doctype
+    dock_refused phase q k = let z = err_from_is_err_and q k in rw (z.1, z.2, ← front) (stops f.0 (recorded g) _)
 
-    pub dock_late : m ≡ 0 → (g.seen || not (eqb phase 0)) ≡ true → docked d ≡ numbered (begun g) 21 → Docks g phase w d.gate d.reply
-    dock_late y t f = docks g phase w d (numbered (begun g) 21) f (unfold numbered G.doctype recorded in rw (sym a, z, sym b, y, t))
+  module _ (u : Unit {0}) (t : b ≡ Continue u) where
+    nought : checked nothing w ≡ 0
+    nought = sym c ∙ ap code (p ∙ ap result_from_control_flow t)
 
-    pub dock_scanned : m ≡ 0 → (g.seen || not (eqb phase 0)) ≡ false → docked d ≡ scan_decides (met g) w → Docks g phase w d.gate d.reply
-    dock_scanned y t f = docks g phase w d (scan_decides (met g) w) f (unfold scan_decides G.doctype recorded in rw (sym a, z, sym b, y, t))
+    pub decl_late : g.started ≡ true → numbered g 21 ≡ G.decl (recorded g) w
+    unfolding numbered G.decl recorded
+    decl_late s = rw (nought, s)
 
-pub ruleset counting = (more_below, more_held, count_none, count_one, rules)
+    pub decl_first : (v : Verdict) → g.started ≡ false → code v ≡ number_of (check_declaration w) → numbered (begun g) (code v) ≡ G.decl (recorded g) w
+    unfolding numbered G.decl recorded
+    decl_first v s e = rw (nought, s, e)
 
-pub ruleset declaring = (decl_refused, decl_late, decl_first, rules)
+    -- the characters: m is what their check gave, and d where `?` goes on or leaves after it
+    module _ (phase : ℕ) (m : Verdict) (e : code m ≡ number_of (check_chars w)) (d : _) (r : m ≡ result_from_control_flow d) where
+      pub dock_char : (f : _) (q : Result Docked Refusal) → d ≡ Break f → IsErrAnd q (λ y. y ≡ f.0) → answered_by (begun g) q ≡ G.doctype appendix_b (recorded g) phase w
+      unfolding answered_by numbered G.doctype recorded
+      dock_char f q s k =
+          let z = err_from_is_err_and q k in
+          let y : number (reason f.0) ≡ number_of (check_chars w) = sym (ap code (r ∙ ap result_from_control_flow s)) ∙ e in
+          rw (z.1, z.2, nought, ← y) (stops f.0 (G.start (recorded g)) _)
 
-pub ruleset replying = (reply_is, scan_open, scan_other, rules)
+      module _ (v : Unit {0}) (s : d ≡ Continue v) where
+        legal : number_of (check_chars w) ≡ 0
+        legal = sym e ∙ ap code (r ∙ ap result_from_control_flow s)
 
-pub ruleset docking = (dock_refused, dock_char, dock_late, dock_scanned, rules)
+        pub dock_late : (x : Refusal) → (g.seen || not (eqb phase 0)) ≡ true → number (reason x) ≡ 21 → answered_by (begun g) (Err x) ≡ G.doctype appendix_b (recorded g) phase w
+        unfolding answered_by numbered G.doctype recorded
+        dock_late x i j = rw (nought, legal, i, j)
+
+        module _ (first : (g.seen || not (eqb phase 0)) ≡ false) where
+          scanned : G.doctype appendix_b (recorded g) phase w ≡ G.by_scan appendix_b (scan w) (recorded (met g)) w
+          unfolding G.doctype recorded
+          scanned = rw (nought, legal, first)
+
+          pub dock_open : (o : Scanned) → scan_of o ≡ scan w → o ≡ NotClosed → answered_by (opened g) (Ok Open) ≡ G.doctype appendix_b (recorded g) phase w
+          unfolding answered_by recorded scan_of
+          dock_open o i j = sym (scanned ∙ (rw (sym i ∙ ap scan_of j)))
+
+          -- where the scan does not say "not closed", the grammar decides: k is what it says, and z where `?` goes on or leaves after it
+          module _ (o : Scanned) (i : scan_of o ≡ scan w) (n : o ≡ NotClosed → ⊥) (k : Verdict) (l : code k ≡ number_of (check_doctype appendix_b w)) (z : _) (y : k ≡ result_from_control_flow z) where
+            decided : G.doctype appendix_b (recorded g) phase w ≡ answered (recorded (met g)) (number_of (check_doctype appendix_b w))
+            unfolding scan_of
+            decided = scanned ∙ go o n (sym i)
+              where
+                go : (o : Scanned) → (o ≡ NotClosed → ⊥) → scan w ≡ scan_of o → G.by_scan appendix_b (scan w) (recorded (met g)) w ≡ answered (recorded (met g)) (number_of (check_doctype appendix_b w))
+                go NotOpened n e = rw e
+                go NotClosed n e = absurd (n refl)
+                go (Closed i) n e = rw e
+
+            pub dock_wrong : (f : _) (q : Result Docked Refusal) → z ≡ Break f → IsErrAnd q (λ y. y ≡ f.0) → answered_by (met g) q ≡ G.doctype appendix_b (recorded g) phase w
+            unfolding answered_by numbered
+            dock_wrong f q x j =
+                let v = err_from_is_err_and q j in
+                let h : number (reason f.0) ≡ number_of (check_doctype appendix_b w) = sym (ap code (y ∙ ap result_from_control_flow x)) ∙ l in
+                rw (v.1, v.2, h) (sym decided)
+
+            pub dock_whole : (x : Unit {0}) → z ≡ Continue x → answered_by (met g) (Ok Whole) ≡ G.doctype appendix_b (recorded g) phase w
+            unfolding answered_by numbered
+            dock_whole x j =
+                let h : 0 ≡ number_of (check_doctype appendix_b w) = sym (ap code (y ∙ ap result_from_control_flow j)) ∙ l in
+                ap (answered (recorded (met g))) h ∙ sym decided
+
+-- `doctype`: k is the record without the count
+module _ (g k h : Gate) (phase : ℕ) (w : List ℕ) (r : Result Docked Refusal) (e : answered_by k r ≡ G.doctype appendix_b (recorded g) phase w) where
+  docks : recorded h ≡ (answered_by k r).left → Docks g phase w h r
+  unfolding answered_by numbered
+  docks f = record { answer = go r ∙ ap (λ (o : Outcome). o.answer) e; left = f ∙ ap (λ (o : Outcome). o.left) e }
+    where
+      go : (r : Result Docked Refusal) → replied r ≡ (answered_by k r).answer
+      go (Ok Whole) = refl
+      go (Ok Open) = refl
+      go (Err x) = answer_is (recorded k) (number (reason x))
+
+  pub docks_counted : is_err r ≡ true → recorded h ≡ G.count (recorded k) → Docks g phase w h r
+  unfolding answered_by numbered
+  docks_counted t f = docks (f ∙ go r t)
+    where
+      go : (r : Result Docked Refusal) → is_err r ≡ true → G.count (recorded k) ≡ (answered_by k r).left
+      go (Ok d) t = absurd (true≢false (sym t))
+      go (Err x) t = sym (refusal_counts (recorded k) x)
+
+pub docks_kept : (g k : Gate) (phase : ℕ) (w : List ℕ) (r : Result Docked Refusal) → answered_by k r ≡ G.doctype appendix_b (recorded g) phase w → is_err r ≡ false → Docks g phase w k r
+unfolding answered_by numbered
+docks_kept g k phase w r e t = docks g k k phase w r e (go r t)
+  where
+    go : (r : Result Docked Refusal) → is_err r ≡ false → recorded k ≡ (answered_by k r).left
+    go (Ok Whole) t = refl
+    go (Ok Open) t = refl
+    go (Err x) t = absurd (true≢false t)
+
+-- the count, held at its limit
+held : (n : ℕ) → min (n + 1) 65_535 ≡ one_more n
+unfolding one_more
+held n = go (cases_lt n 65_535)
+  where
+    go : (n < 65_535) ⊎ (65_535 ≤ n) → min (n + 1) 65_535 ≡ pick (ltb n 65_535) (n + 1) 65_535
+    go (inl h) = rw (lt-ltb n 65_535 h) (omega arith)
+    go (inr h) = rw (le-ltb n 65_535 h) (omega arith)
+
+pub count_held : (g : Gate) (k : ℕ) → k ≡ min (g.refused + 1) (2 ^ 16 - 1) → recorded (record { started = g.started; seen = g.seen; «open» = g.«open»; refused = k }) ≡ G.count (recorded g)
+unfolding recorded
+count_held g k e = rw (e, held g.refused)
+
+pub ruleset reading = (decl_refused, decl_late, decl_first, dock_refused, dock_char, dock_late, dock_open, dock_wrong, dock_whole, count_held, rules)
+
+pub ruleset counting = (decl_counted, decl_kept, docks_counted, docks_kept, rules)

@@ -1,39 +1,33 @@
 -- The code's record and answers as the rule's, and what the two calls promise. Assumes nothing: these are definitions.
-use Rattle.std.specs.Prelude.{◌≡◌, Bool, true, false, List, ℕ}
+use Rattle.std.specs.Prelude.{◌≡◌, List, ℕ, Result, Ok, Err}
 use Rattle.spec.specs.Grammar.AppendixB.{appendix_b}
 use Rattle.spec.specs.Reading.Gate as G
-use Rattle.spec.specs.Reading.Gate.{Record, Outcome, Says, says_open, says, answered, by_scan}
-use Rattle.spec.specs.Reading.Scan.{not_opened, not_closed, closed, scan}
-use Rattle.scan.specs.Answers.{Gives, gives, gives_none}
-use Rattle.gate.specs.declared.state.Gate.{Gate}
-use Rattle.gate.specs.declared.state.Reply.{Reply}
-use Rattle.gate.specs.declared.state.Reply.TheVariants.{Open, Number}
-use Rattle.gate.specs.declared.state.Docked.{Docked}
+use Rattle.spec.specs.Reading.Gate.{Record, Outcome, Says, says_open, says, answered}
+use Rattle.spec.specs.Reading.Refusals.{number}
+use Rattle.error.specs.Read.{reason}
+use Rattle.error.specs.declared.refusal.Refusal.{Refusal}
+use Rattle.gate.specs.declared.record.Gate.{Gate}
+use Rattle.gate.specs.declared.record.Docked.{Docked}
+use Rattle.gate.specs.declared.record.Docked.TheVariants.{Whole, Open}
 
 -- the code's record as the rule's
 unfoldable pub recorded : Gate → Record
 recorded g = record { started = g.started; seen = g.seen; «open» = g.«open»; refused = g.refused }
 
 -- what each reply is in docs/SCOPE.md: "open", or a number of its table
-abbrev pub replied : Reply → Says
-replied Open = says_open
-replied (Number n) = says n
+abbrev pub replied : Result Docked Refusal → Says
+replied (Ok Whole) = says 0
+replied (Ok Open) = says_open
+replied (Err x) = says (number (reason x))
 
-unfoldable pub docked : Docked → Outcome
-docked d = record { left = recorded d.gate; answer = replied d.reply }
-
--- the rule's parts on the code's record
+-- a record that is left without the count, and the answer that is then counted
 unfoldable pub numbered : Gate → ℕ → Outcome
 numbered g n = answered (recorded g) n
 
-unfoldable pub unclosed : Gives → Bool
-unclosed (gives not_opened) = false
-unclosed (gives not_closed) = true
-unclosed (gives (closed i)) = false
-unclosed gives_none = false
-
-unfoldable pub scan_decides : Gate → List ℕ → Outcome
-scan_decides g w = by_scan appendix_b (scan w) (recorded g) w
+unfoldable pub answered_by : Gate → Result Docked Refusal → Outcome
+answered_by g (Ok Whole) = numbered g 0
+answered_by g (Ok Open) = record { left = recorded g; answer = says_open }
+answered_by g (Err x) = numbered g (number (reason x))
 
 -- `decl` on the record g answers with n and leaves the record h
 pub record Declares (g : Gate) (w : List ℕ) (h : Gate) (n : ℕ) : Type 0 where
@@ -41,6 +35,6 @@ pub record Declares (g : Gate) (w : List ℕ) (h : Gate) (n : ℕ) : Type 0 wher
   pub left : recorded h ≡ (G.decl (recorded g) w).left
 
 -- `doctype` on the record g answers with r and leaves the record h
-pub record Docks (g : Gate) (phase : ℕ) (w : List ℕ) (h : Gate) (r : Reply) : Type 0 where
+pub record Docks (g : Gate) (phase : ℕ) (w : List ℕ) (h : Gate) (r : Result Docked Refusal) : Type 0 where
   pub answer : replied r ≡ (G.doctype appendix_b (recorded g) phase w).answer
   pub left : recorded h ≡ (G.doctype appendix_b (recorded g) phase w).left

@@ -3,9 +3,6 @@
 #![tactic(auto)]
 
 mod calls;
-mod state;
-mod steps;
+mod record;
 
-pub use calls::{decl, doctype};
-pub use state::{Declared, Docked, Gate, Reply};
-pub use steps::{decl_step, doctype_step};
+pub use record::{Docked, Gate};

@@ -2,7 +2,7 @@
 // together (W3C XML 1.0, section 2.11).
 #![tactic(auto)]
 
-ghost use Rattle.std.specs.Prelude.{◌≡◌};
+ghost use Rattle.std.specs.Prelude.{◌≡◌, count_by, not, reverse, take, take_while};
 ghost use Rattle.lines.specs.Lines.{ends_line, on_line, continues, line, column};
 
 // Whether the byte b, which a stands before, ends a line. After CR an LF ends none: the CR did.
@@ -26,48 +26,42 @@ fn is_continuation(b: u8) -> bool
     (0x80 <= b) & (b <= 0xBF)
 }
 
+// The bytes before the place.
+fn before(text: &[u8], at: usize) -> &[u8]
+    ensures { result.now ≡ take at text.now }
+{
+    &text[..at.min(text.len())]
+}
+
 // One more than the lines that end before the place.
 pub fn line_of(text: &[u8], at: usize) -> usize
     ensures { result ≡ line text.now at }
 {
     let mut n: usize = 1;
     let mut last: u8 = 0;
-    let mut i: usize = 0;
-    while i < text.len() {
-        if at <= i {
-            return n;
+    for &b in before(text, at) {
+        if is_line_end(last, b) {
+            n += 1;
         }
-        let ends = is_line_end(last, text[i]);
-        last = text[i];
-        i += 1;
-        if !ends {
-            continue;
-        }
-        n += 1;
+        last = b;
     }
     n
+}
+
+// The characters after the text's last CR or LF, counted back from its end.
+fn last_characters(text: &[u8]) -> usize
+    ensures { result ≡ count_by (λ b. not (continues b)) (take_while on_line (reverse text.now)) }
+{
+    text.iter()
+        .rev()
+        .take_while(|&&b| is_on_line(b))
+        .filter(|&&b| !is_continuation(b))
+        .count()
 }
 
 // One more than the characters between the last CR or LF before the place, or the text's start, and the place.
 pub fn column_of(text: &[u8], at: usize) -> usize
     ensures { result ≡ column text.now at }
 {
-    let mut n: usize = 1;
-    let mut i: usize = 0;
-    while i < text.len() {
-        if at <= i {
-            return n;
-        }
-        let b = text[i];
-        i += 1;
-        if !is_on_line(b) {
-            n = 1;
-            continue;
-        }
-        if is_continuation(b) {
-            continue;
-        }
-        n += 1;
-    }
-    n
+    1 + last_characters(before(text, at))
 }

@@ -9,32 +9,31 @@ use borrow.Author.Rules.{rules}
 use lib.Dec.{eqb}
 use lib.ListN.{length, drop}
 use lib.Seq.{drop-drop}
+use Rattle.std.specs.Prelude.{Option, Some, None, Ok, Err}
 use Rattle.spec.specs.Basics.{pick}
 use Rattle.spec.specs.Grammar.Names.{Dialect}
-use Rattle.spec.specs.Reading.Refusals.{number, unterminated}
+use Rattle.spec.specs.Reading.Refusals.{unterminated}
 use Rattle.spec.specs.Reading.Places.{outside}
 use Rattle.spec.specs.Reading.Readers.{starts, begins, contains, before}
 use Rattle.spec.specs.Reading.Dtd.{take_decl_body, has_pe_reference}
 use Rattle.spec.proofs.Agreement.Words.{starts_split}
 use Rattle.spec.proofs.Base.Places.{drop_end}
-use Rattle.error.specs.Read.{passed, said, read}
-use Rattle.error.specs.declared.Answer.TheVariants.{At, No}
+use Rattle.error.specs.Read.{passed, said, read, refused}
+use Rattle.error.specs.declared.Fault.{Fault}
 use Rattle.utf8.proofs.Points.{points}
 use Rattle.search.specs.FirstPlace.{first_place}
 use Rattle.search.specs.Places.{found, place_from, either}
-use Rattle.search.specs.declared.places.Found.{Found}
-use Rattle.search.specs.declared.places.Found.TheVariants.{Here, Nowhere}
 use Rattle.search.proofs.Finding.{starts_first, was_nowhere, was_here, here_onward, here_fits}
 use Rattle.search.proofs.Outside.{outside_one}
 use Rattle.search.proofs.Placing.{from_nowhere, from_here}
 
 -- r is what is found of the '>' that ends a body
-module _ (s : List ℕ) (i : ℕ) (r : Found) (a : found r ≡ place_from (outside (either 62 62) 0) s i) where
-  pub body_open : (m : ℕ) → r ≡ Nowhere → m ≡ number unterminated → said (No m i) ≡ read take_decl_body s i
-  unfolding read said take_decl_body
-  body_open m b e = rw (← outside_one, from_nowhere (outside (either 62 62) 0) s i r a b, e, add-zero)
+module _ (s : List ℕ) (i : ℕ) (r : Option ℕ) (a : found r ≡ place_from (outside (either 62 62) 0) s i) where
+  pub body_open : (x : Fault) → r ≡ None → said (Err x) ≡ refused unterminated i → said (Err x) ≡ read take_decl_body s i
+  unfolding read take_decl_body
+  body_open x b e = e ∙ (rw (← outside_one, from_nowhere (outside (either 62 62) 0) s i r a b, add-zero))
 
-  pub body_end : (j : ℕ) → r ≡ Here j → said (At j) ≡ read take_decl_body s i
+  pub body_end : (j : ℕ) → r ≡ Some j → said (Ok j) ≡ read take_decl_body s i
   unfolding read said take_decl_body
   body_end j b = let (n, f, g) = from_here (outside (either 62 62) 0) s i r a j b in ap passed g ∙ (rw (← outside_one, f))
 
@@ -65,14 +64,14 @@ module _ (D : Dialect) (t : List ℕ) (i : ℕ) (inv : has_pe_reference D (drop 
   pe_end h = rw (drop_end t i h) at inv
 
   -- r is where the next '%' stands
-  module _ (r : Found) (a : found r ≡ first_place (37 ∷ []) t i) where
-    pub pe_absent : r ≡ Nowhere → false ≡ has_pe_reference D t
+  module _ (r : Option ℕ) (a : found r ≡ first_place (37 ∷ []) t i) where
+    pub pe_absent : r ≡ None → false ≡ has_pe_reference D t
     pe_absent e = sym (pe_none D (drop i t) (was_nowhere (37 ∷ []) t i r a e)) ∙ inv
 
-    pub pe_less : (j : ℕ) → r ≡ Here j → i < length t → length t - (j + 1) < length t - i
+    pub pe_less : (j : ℕ) → r ≡ Some j → i < length t → length t - (j + 1) < length t - i
     pe_less j e h = omega (arith, here_onward (37 ∷ []) t i r a j e)
 
-    module _ (j : ℕ) (e : r ≡ Here j) (b : Bool) (f : b ≡ begins D.start (drop (j + 1) t)) where
+    module _ (j : ℕ) (e : r ≡ Some j) (b : Bool) (f : b ≡ begins D.start (drop (j + 1) t)) where
       percent_at : (c : Bool) → b ≡ c → c || has_pe_reference D (drop (j + 1) t) ≡ has_pe_reference D t
       unfolding has_pe_reference
       percent_at c g =

@@ -10,23 +10,22 @@ use borrow.Author.Tests.{not-true, not-false}
 use lib.Dec.{eqb}
 use lib.ListN.{length, get_or, drop}
 use lib.Seq.{drop-drop}
+use Rattle.std.specs.Prelude.{Option, Some, None, Ok, Err}
 use Rattle.spec.specs.Grammar.Characters.{space}
 use Rattle.spec.specs.Grammar.Languages.{ascii, none_of}
-use Rattle.spec.specs.Reading.Refusals.{number, bad_name, has_colon, reserved_target}
+use Rattle.spec.specs.Reading.Refusals.{bad_name, has_colon, reserved_target}
 use Rattle.spec.specs.Reading.Readers.{run, before}
 use Rattle.spec.specs.Reading.Wellformed.{name_length}
 use Rattle.spec.specs.Reading.Dtd.{reserved, check_pi}
 use Rattle.spec.proofs.Base.Places.{drop_at, drop_end}
 use Rattle.spec.proofs.Dtd.Targets.{judged, pi_unnamed, pi_broken, pi_named}
-use Rattle.error.specs.Read.{said, read}
-use Rattle.error.specs.declared.Answer.TheVariants.{At, No}
+use Rattle.error.specs.Read.{said, read, refused}
+use Rattle.error.specs.declared.Fault.{Fault}
 use Rattle.classes.specs.Classes.{dialect}
 use Rattle.classes.specs.declared.Names.{Names}
 use Rattle.classes.proofs.ClassLaws.{dialect_ascii}
 use Rattle.search.specs.FirstPlace.{first_place}
 use Rattle.search.specs.Places.{found}
-use Rattle.search.specs.declared.places.Found.{Found}
-use Rattle.search.specs.declared.places.Found.TheVariants.{Here, Nowhere}
 use Rattle.search.proofs.Finding.{was_nowhere, was_here, places_found}
 use Rattle.names.specs.NamePart.{NamePart}
 use Rattle.names.proofs.PlaceLaws.{part_length}
@@ -58,41 +57,41 @@ module _ (names : Names) (s p : List ℕ) (at : ℕ) (n : NamePart (dialect name
   size : length p ≡ name_length (dialect names) (drop at s)
   size = part_length (dialect names) s at p n.part
 
-  pub target_unnamed : (m : ℕ) → length p ≡ 0 → m ≡ number bad_name → said (No m at) ≡ read (check_pi (dialect names)) s at
-  unfolding read said
-  target_unnamed m z e = rw (pi_unnamed (dialect names) (dialect_ascii names) (drop at s) (sym size ∙ z), e, add-zero)
+  pub target_unnamed : (x : Fault) → length p ≡ 0 → said (Err x) ≡ refused bad_name at → said (Err x) ≡ read (check_pi (dialect names)) s at
+  unfolding read
+  target_unnamed x z e = e ∙ (rw (pi_unnamed (dialect names) (dialect_ascii names) (drop at s) (sym size ∙ z), add-zero))
 
   -- it is a name; b says whether the target ends with it
   module _ (b : Bool) (e : b ≡ target_ends (drop (at + length p) s)) (z : length p ≡ 0 → ⊥) where
     after : drop (name_length (dialect names) (drop at s)) (drop at s) ≡ drop (at + length p) s
     after = ap (λ (k : ℕ). drop k (drop at s)) (sym size) ∙ drop-drop (length p) at s
 
-    pub target_broken : (m : ℕ) → b ≡ false → m ≡ number bad_name → said (No m (at + length p)) ≡ read (check_pi (dialect names)) s at
-    unfolding read said
-    target_broken m f g =
-        rw (pi_broken (dialect names) (dialect_ascii names) (drop at s) (λ y. z (size ∙ y)) (λ y. unended (drop (at + length p) s) (sym e ∙ f) (ap (run (none_of " \t\r\n")) (sym after) ∙ y)), g, size)
+    pub target_broken : (x : Fault) → b ≡ false → said (Err x) ≡ refused bad_name (at + length p) → said (Err x) ≡ read (check_pi (dialect names)) s at
+    unfolding read
+    target_broken x f g =
+        g ∙ (rw (pi_broken (dialect names) (dialect_ascii names) (drop at s) (λ y. z (size ∙ y)) (λ y. unended (drop (at + length p) s) (sym e ∙ f) (ap (run (none_of " \t\r\n")) (sym after) ∙ y)), size))
 
     -- c is where a colon stands in it
-    module _ (t : b ≡ true) (c : Found) (d : found c ≡ first_place (ascii ":") p 0) where
+    module _ (t : b ≡ true) (c : Option ℕ) (d : found c ≡ first_place (ascii ":") p 0) where
       whole : check_pi (dialect names) (drop at s) ≡ judged p
       whole =
           pi_named (dialect names) (dialect_ascii names) (drop at s) (λ y. z (size ∙ y)) (ap (run (none_of " \t\r\n")) after ∙ ended (drop (at + length p) s) (sym e ∙ t))
           ∙ ap judged (sym n.part)
 
-      pub target_colon : (j m : ℕ) → c ≡ Here j → m ≡ number has_colon → said (No m (at + j)) ≡ read (check_pi (dialect names)) s at
-      unfolding read said
-      target_colon j m y f =
+      pub target_colon : (j : ℕ) (x : Fault) → c ≡ Some j → said (Err x) ≡ refused has_colon (at + j) → said (Err x) ≡ read (check_pi (dialect names)) s at
+      unfolding read
+      target_colon j x y f =
           let (i, l) = was_here (ascii ":") p 0 c d j y in
           let k : j ≡ before (ascii ":") p = omega arith in
-          rw (whole, i, f, k)
+          f ∙ (rw (whole, i, k))
 
       -- x says whether it is "xml"
-      module _ (y : c ≡ Nowhere) (x : Bool) (i : x ≡ reserved p) where
-        pub target_reserved : (m : ℕ) → x ≡ true → m ≡ number reserved_target → said (No m at) ≡ read (check_pi (dialect names)) s at
-        unfolding read said
-        target_reserved m f g = rw (whole, was_nowhere (ascii ":") p 0 c d y, sym i ∙ f, g, add-zero)
+      module _ (y : c ≡ None) (x : Bool) (i : x ≡ reserved p) where
+        pub target_reserved : (e : Fault) → x ≡ true → said (Err e) ≡ refused reserved_target at → said (Err e) ≡ read (check_pi (dialect names)) s at
+        unfolding read
+        target_reserved e f g = g ∙ (rw (whole, was_nowhere (ascii ":") p 0 c d y, sym i ∙ f, add-zero))
 
-        pub target_taken : x ≡ false → said (At at) ≡ read (check_pi (dialect names)) s at
+        pub target_taken : x ≡ false → said (Ok at) ≡ read (check_pi (dialect names)) s at
         unfolding read said
         target_taken f = rw (whole, was_nowhere (ascii ":") p 0 c d y, sym i ∙ f, add-zero)
 

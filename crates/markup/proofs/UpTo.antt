@@ -9,32 +9,30 @@ use native.Mathlib.Omega.{arith}
 use borrow.Author.Tests.{not-true, not-false}
 use lib.ListN.{length, take, drop, take-append-drop}
 use lib.Seq.{drop-drop}
+use Rattle.std.specs.Prelude.{Option, Some, None, Ok, Err}
 use Rattle.spec.specs.Basics.{pick}
 use Rattle.spec.specs.Grammar.Languages.{ascii}
-use Rattle.spec.specs.Reading.Refusals.{Refusal, number, double_hyphen}
+use Rattle.spec.specs.Reading.Refusals.{Refusal, double_hyphen}
 use Rattle.spec.specs.Reading.Readers.{Result, ok, err, on_ok, nothing, refuse, starts, choose, word_of, contains, before, refuse_at, up_to}
 use Rattle.spec.specs.Reading.Dtd.{check_comment}
 use Rattle.spec.proofs.Base.Tests.{T→true, no→false}
 use Rattle.spec.proofs.Agreement.Words.{starts_self, starts_split}
-use Rattle.error.specs.Read.{passed, said, placed, read}
-use Rattle.error.specs.declared.Answer.{Answer}
-use Rattle.error.specs.declared.Answer.TheVariants.{At, No}
+use Rattle.error.specs.Read.{passed, said, placed, read, Answer, refused}
+use Rattle.error.specs.declared.Fault.{Fault}
 use Rattle.error.proofs.Laws.{was_ok, was_err}
 use Rattle.search.proofs.Words.{word_yes, word_no, by_words}
 use Rattle.search.specs.FirstPlace.{first_place}
 use Rattle.search.specs.Places.{found}
-use Rattle.search.specs.declared.places.Found.{Found}
-use Rattle.search.specs.declared.places.Found.TheVariants.{Here, Nowhere}
 use Rattle.search.proofs.Finding.{was_nowhere, was_here, places_found}
 use Rattle.cursor.proofs.Reading.{left_of}
 
 -- the word k was looked for from a place on, which gave r; c is what the check answers where what stands before it is all there is
-module _ (k : String) (n : Refusal) (check : List ℕ → Result) (s : List ℕ) (at : ℕ) (r : Found) (a : found r ≡ first_place (ascii k) s at) where
-  pub up_to_nowhere : (m : ℕ) → r ≡ Nowhere → m ≡ number n → said (No m at) ≡ read (up_to k n check) s at
-  unfolding read said up_to refuse
-  up_to_nowhere m b e = rw (was_nowhere (ascii k) s at r a b, e, add-zero)
+module _ (k : String) (n : Refusal) (check : List ℕ → Result) (s : List ℕ) (at : ℕ) (r : Option ℕ) (a : found r ≡ first_place (ascii k) s at) where
+  pub up_to_nowhere : (x : Fault) → r ≡ None → said (Err x) ≡ refused n at → said (Err x) ≡ read (up_to k n check) s at
+  unfolding read up_to refuse
+  up_to_nowhere x b e = e ∙ (rw (was_nowhere (ascii k) s at r a b, add-zero))
 
-  module _ (j : ℕ) (q : Answer) (b : r ≡ Here j) (c : said q ≡ read check (take (j - 0) (drop 0 s)) at) where
+  module _ (j : ℕ) (q : Answer) (b : r ≡ Some j) (c : said q ≡ read check (take (j - 0) (drop 0 s)) at) where
     up_to_here : (x : Result) → check (drop at (take (j - 0) (drop 0 s))) ≡ x → read (up_to k n check) s at ≡ placed at (on_ok x (λ _. ok (before (ascii k) (drop at s) + length (ascii k))))
     unfolding read up_to
     up_to_here x f =
@@ -42,16 +40,16 @@ module _ (k : String) (n : Refusal) (check : List ℕ → Result) (s : List ℕ)
         let z : j - at ≡ before (ascii k) (drop at s) = omega arith in
         rw (g, ← z, ← left_of at j s, f)
 
-    pub up_to_taken : (l o : ℕ) → q ≡ At o → l ≡ length (ascii k) → said (At (j + l)) ≡ read (up_to k n check) s at
+    pub up_to_taken : (l o : ℕ) → q ≡ Ok o → l ≡ length (ascii k) → said (Ok (j + l)) ≡ read (up_to k n check) s at
     unfolding said
     up_to_taken l o e d =
         let (i, (f, _)) = was_ok check (take (j - 0) (drop 0 s)) at o q c e in
         let (g, h) = was_here (ascii k) s at r a j b in
         rw (up_to_here (ok i) f, d, h, add_assoc)
 
-    pub up_to_refused : (m o : ℕ) → q ≡ No m o → said q ≡ read (up_to k n check) s at
-    up_to_refused m o e =
-        let (y, (i, (f, g))) = was_err check (take (j - 0) (drop 0 s)) at m o q c e in
+    pub up_to_refused : (x : Fault) → q ≡ Err x → said (Err x) ≡ read (up_to k n check) s at
+    up_to_refused x e =
+        let (y, (i, (f, g))) = was_err check (take (j - 0) (drop 0 s)) at x q c e in
         g ∙ sym (up_to_here (err y i) f)
 
 -- a word that goes on stands only where its first part does, and not in what stands before the first place of that part
@@ -86,7 +84,7 @@ longer p x (b ∷ w) c e = go (starts p (b ∷ w)) refl c e (longer p x w)
         rw (no→false (starts (p ++ x) (b ∷ w)) (λ z. true≢false (sym (starts_part p x (b ∷ w) (T→true _ z)) ∙ f))) (g, ap suc h)
 
 -- a comment whose first "--", at j, is that of a "-->"
-pub comment_once : (s : List ℕ) (at j : ℕ) (r : Found) (b : Bool) (n : Refusal) → found r ≡ first_place (ascii "--") s at → r ≡ Here j → b ≡ starts (ascii "-->") (drop j s) → b ≡ true → said (At (j + 3)) ≡ read (up_to "-->" n check_comment) s at
+pub comment_once : (s : List ℕ) (at j : ℕ) (r : Option ℕ) (b : Bool) (n : Refusal) → found r ≡ first_place (ascii "--") s at → r ≡ Some j → b ≡ starts (ascii "-->") (drop j s) → b ≡ true → said (Ok (j + 3)) ≡ read (up_to "-->" n check_comment) s at
 unfolding read said up_to check_comment choose nothing
 comment_once s at j r b n a d e f =
     let (c, k) = was_here (ascii "--") s at r a j d in
@@ -97,16 +95,16 @@ comment_once s at j r b n a d e f =
     ap passed z ∙ (rw (h, i, none_before (ascii "--") (drop at s)))
 
 -- the bytes p stand at a place, as b says, and the code knows how many they are
-pub word_end : (p s : List ℕ) (at l : ℕ) (b : Bool) (n : Refusal) → b ≡ starts p (drop at s) → b ≡ true → l ≡ length p → said (At (at + l)) ≡ read (word_of p n) s at
+pub word_end : (p s : List ℕ) (at l : ℕ) (b : Bool) (n : Refusal) → b ≡ starts p (drop at s) → b ≡ true → l ≡ length p → said (Ok (at + l)) ≡ read (word_of p n) s at
 word_end p s at l b n e f d = rw d (word_yes p s at b e n f)
 
 -- a comment's text: the first "--" in it, as r says
-module _ (t : List ℕ) (at : ℕ) (r : Found) (a : found r ≡ first_place (ascii "--") t at) where
-  pub comment_twice : (j m : ℕ) → r ≡ Here j → m ≡ number double_hyphen → said (No m j) ≡ read check_comment t at
-  unfolding read said check_comment choose refuse_at
-  comment_twice j m b e = let (c, l) = was_here (ascii "--") t at r a j b in rw (c, e, l)
+module _ (t : List ℕ) (at : ℕ) (r : Option ℕ) (a : found r ≡ first_place (ascii "--") t at) where
+  pub comment_twice : (j : ℕ) (x : Fault) → r ≡ Some j → said (Err x) ≡ refused double_hyphen j → said (Err x) ≡ read check_comment t at
+  unfolding read check_comment choose refuse_at
+  comment_twice j x b e = e ∙ (let (c, l) = was_here (ascii "--") t at r a j b in rw (c, l))
 
-  pub comment_clean : r ≡ Nowhere → said (At at) ≡ read check_comment t at
+  pub comment_clean : r ≡ None → said (Ok at) ≡ read check_comment t at
   unfolding read said check_comment choose nothing
   comment_clean b = rw (was_nowhere (ascii "--") t at r a b, add-zero)
 

@@ -1,4 +1,5 @@
 // Processing instructions.
+// Text, place and names stay three parameters (classes/src/lib.rt says why).
 ghost use Rattle.std.specs.Prelude.{◌≡◌, drop};
 ghost use Rattle.spec.specs.Reading.Dtd.{reserved, check_pi, parse_pi};
 ghost use Rattle.error.specs.Read.{said, read};
@@ -7,11 +8,12 @@ ghost use Rattle.markup.specs.Targets.{target_ends};
 
 use classes::Names;
 use cursor::is_space;
-use error::Answer;
+use error::{Answer, Refusal};
 use names::parse_name;
-use search::{Found, at_keyword, find, find_byte};
+use search::{at_keyword, find, find_byte};
 
 // The target "xml", in any case.
+#[tactic(auto, using(crate::proofs::Targets::targets))]
 fn is_reserved(t: &[u8]) -> bool
     ensures { result ≡ reserved t.now }
 {
@@ -24,6 +26,7 @@ fn is_reserved(t: &[u8]) -> bool
 }
 
 // What a target ends before: white space, or the text's end.
+#[tactic(auto, using(crate::proofs::Targets::targets))]
 fn ends_target(t: &[u8], at: usize) -> bool
     ensures { result ≡ target_ends (drop at t.now) }
 {
@@ -35,42 +38,39 @@ fn ends_target(t: &[u8], at: usize) -> bool
 
 // What stands between "<?" and "?>", t from `at` on, of which only [17] PITarget is looked at: check_name, reject_colon, and not the reserved
 // name, in that order. White space ends a target and is no part of a name, so the target is the name that stands here, if it ends there.
+#[tactic(auto, using(crate::proofs::Targets::targets))]
 fn check_pi(t: &[u8], at: usize, names: Names) -> Answer
     ensures { said result ≡ read (check_pi (dialect names)) t.now at }
 {
     let target = parse_name(t, at, names);
     if target.len() == 0 {
-        return Answer::No(error::BAD_NAME, at);
+        return Err(Refusal::BadName.at(at));
     }
     let e = at + target.len();
     if !ends_target(t, e) {
-        return Answer::No(error::BAD_NAME, e);
+        return Err(Refusal::BadName.at(e));
     }
-    let c = find_byte(target, 0, b':');
-    if let Found::Here(j) = c {
-        return Answer::No(error::HAS_COLON, at + j);
+    if let Some(j) = find_byte(target, 0, b':') {
+        return Err(Refusal::HasColon.at(at + j));
     }
     if is_reserved(target) {
-        return Answer::No(error::RESERVED_TARGET, at);
+        return Err(Refusal::ReservedTarget.at(at));
     }
-    Answer::At(at)
+    Ok(at)
 }
 
 // parse_pi, [16] PI: from "<?" to the first "?>".
+#[tactic(auto, using(crate::proofs::UpTo::upwards), unfolding(spec::specs::Reading::Dtd::parse_pi))]
 pub fn parse_pi(s: &[u8], at: usize, names: Names) -> Answer
     ensures { said result ≡ read (parse_pi (dialect names)) s.now at }
 {
     if !at_keyword(s, at, b"<?") {
-        return Answer::No(error::UNEXPECTED, at);
+        return Err(Refusal::Unexpected.at(at));
     }
     let from = at + 2;
-    let r = find(s, from, b"?>");
-    let Found::Here(j) = r else {
-        return Answer::No(error::UNTERMINATED, from);
+    let Some(j) = find(s, from, b"?>") else {
+        return Err(Refusal::Unterminated.at(from));
     };
-    let c = check_pi(&s[0..j], from, names);
-    let Answer::At(_) = c else {
-        return c;
-    };
-    Answer::At(j + 2)
+    check_pi(&s[0..j], from, names)?;
+    Ok(j + 2)
 }

@@ -1,4 +1,5 @@
 // Parameter-entity references.
+// Text, place and names stay three parameters (classes/src/lib.rt says why).
 ghost use Rattle.std.specs.Prelude.{◌≡◌};
 ghost use Rattle.spec.specs.Reading.Dtd.{parse_pe_reference};
 ghost use Rattle.error.specs.Read.{said, read};
@@ -6,22 +7,20 @@ ghost use Rattle.classes.specs.Classes.{dialect};
 
 use classes::Names;
 use cursor::need_name;
-use error::Answer;
+use error::{Answer, Refusal};
 use search::at_keyword;
 
 // parse_pe_reference, [69] PEReference.
+#[tactic(auto, using(crate::proofs::UpTo::upwards), unfolding(spec::specs::Reading::Dtd::parse_pe_reference))]
 pub fn parse_pe_reference(s: &[u8], at: usize, names: Names) -> Answer
     ensures { said result ≡ read (parse_pe_reference (dialect names)) s.now at }
 {
     if !at_keyword(s, at, b"%") {
-        return Answer::No(error::UNEXPECTED, at);
+        return Err(Refusal::Unexpected.at(at));
     }
-    let r = need_name(s, at + 1, names);
-    let Answer::At(e) = r else {
-        return r;
-    };
+    let e = need_name(s, at + 1, names)?;
     if at_keyword(s, e, b";") {
-        return Answer::At(e + 1);
+        return Ok(e + 1);
     }
-    Answer::No(error::UNEXPECTED, e)
+    Err(Refusal::Unexpected.at(e))
 }

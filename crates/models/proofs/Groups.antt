@@ -9,9 +9,10 @@ use native.Mathlib.Numerals.{sub-one}
 use borrow.Author.Rules.{rules}
 use lib.Dec.{eqb}
 use lib.ListN.{get_or, drop}
+use Rattle.std.specs.Prelude.{Ok, Err}
 use Rattle.spec.specs.Grammar.Characters.{space}
 use Rattle.spec.specs.Grammar.Names.{Dialect}
-use Rattle.spec.specs.Reading.Refusals.{number, too_deep, unexpected, bad_connector}
+use Rattle.spec.specs.Reading.Refusals.{too_deep, unexpected, bad_connector}
 use Rattle.spec.specs.Reading.Readers.{Reader, ◌>>◌, nothing, refuse, starts, choose, on, word, run, while}
 use Rattle.spec.specs.Reading.Wellformed.{name}
 use Rattle.spec.specs.Reading.Dtd.{skip_s, after, connector, connected, group_of, occurs, cp_of, parse_group}
@@ -19,9 +20,8 @@ use Rattle.spec.proofs.Base.Loops.{Somes, while_stop}
 use Rattle.spec.proofs.Base.Places.{front_at}
 use Rattle.spec.proofs.Base.Somes.{some_choose, some_refuse}
 use Rattle.spec.proofs.Base.Tests.{decide, eqb-true}
-use Rattle.error.specs.Read.{Said, said, read}
-use Rattle.error.specs.declared.Answer.{Answer}
-use Rattle.error.specs.declared.Answer.TheVariants.{At, No}
+use Rattle.error.specs.Read.{Said, said, read, Answer, refused}
+use Rattle.error.specs.declared.Fault.{Fault}
 use Rattle.error.proofs.Laws.{seq_no, seq_at, choose_yes, choose_no, refuses}
 use Rattle.search.proofs.Words.{word_no, word_fits}
 use Rattle.classes.specs.Classes.{dialect}
@@ -32,9 +32,9 @@ use Rattle.models.proofs.Signs.{sign_yes, connector_ends, some_sign, steps, afte
 use Rattle.error.proofs.Whiles.{unroll, whiles}
 
 -- by the height
-pub group_none : (D : Dialect) (h m at : ℕ) (s : List ℕ) → h ≡ 0 → m ≡ number too_deep → said (No m at) ≡ read (parse_group D too_deep h) s at
-unfolding read said parse_group refuse
-group_none D h m at s e f = rw (e, f, add-zero)
+pub group_none : (D : Dialect) (h at : ℕ) (s : List ℕ) (x : Fault) → h ≡ 0 → said (Err x) ≡ refused too_deep at → said (Err x) ≡ read (parse_group D too_deep h) s at
+unfolding read parse_group refuse
+group_none D h at s x e f = f ∙ (rw (e, add-zero))
 
 pub group_some : (D : Dialect) (h at : ℕ) (s : List ℕ) (q : Said) → (h ≡ 0 → ⊥) → q ≡ read (word "(" unexpected >> skip_s >> cp_of D (parse_group D too_deep (h - 1)) >> skip_s >> group_end (cp_of D (parse_group D too_deep (h - 1)))) s at → q ≡ read (parse_group D too_deep h) s at
 unfolding parse_group group_of group_end
@@ -61,18 +61,18 @@ some_turn q cp = some_choose (starts (q ∷ [])) (after_sign q cp) (refuse bad_c
 
 -- b is whether q stands at a place, and r the answer for the particle after it
 module _ (q : ℕ) (cp : Reader) (s : List ℕ) (at : ℕ) (b : Bool) (e : b ≡ starts (q ∷ []) (drop at s)) where
-  pub turn_other : (m : ℕ) → b ≡ false → m ≡ number bad_connector → said (No m at) ≡ read (turn q cp) s at
+  pub turn_other : (x : Fault) → b ≡ false → said (Err x) ≡ refused bad_connector at → said (Err x) ≡ read (turn q cp) s at
   unfolding turn
-  turn_other m n f = choose_no (starts (q ∷ [])) (after_sign q cp) (refuse bad_connector) s at b (said (No m at)) e n (refuses bad_connector m s at f)
+  turn_other x n f = choose_no (starts (q ∷ [])) (after_sign q cp) (refuse bad_connector) s at b (said (Err x)) e n (refuses bad_connector s at x f)
 
   module _ (y : b ≡ true) (i : ℕ) (r : Answer) (hi : i ≡ at + 1 + run space (drop (at + 1) s)) (hr : said r ≡ read cp s i) where
-    pub turn_no : (n k : ℕ) → r ≡ No n k → said r ≡ read (turn q cp) s at
+    pub turn_no : (x : Fault) → r ≡ Err x → said (Err x) ≡ read (turn q cp) s at
     unfolding turn
-    turn_no n k f = choose_yes (starts (q ∷ [])) (after_sign q cp) (refuse bad_connector) s at b (said r) e y (after_no q cp s at b e y i r hi hr n k f)
+    turn_no x f = choose_yes (starts (q ∷ [])) (after_sign q cp) (refuse bad_connector) s at b (said (Err x)) e y (after_no q cp s at b e y i r hi hr x f)
 
-    pub turn_at : (d j : ℕ) → r ≡ At d → j ≡ d + run space (drop d s) → said (At j) ≡ read (turn q cp) s at
+    pub turn_at : (d j : ℕ) → r ≡ Ok d → j ≡ d + run space (drop d s) → said (Ok j) ≡ read (turn q cp) s at
     unfolding turn
-    turn_at d j f hj = choose_yes (starts (q ∷ [])) (after_sign q cp) (refuse bad_connector) s at b (said (At j)) e y (after_at q cp s at b e y i r hi hr d j f hj)
+    turn_at d j f hj = choose_yes (starts (q ∷ [])) (after_sign q cp) (refuse bad_connector) s at b (said (Ok j)) e y (after_at q cp s at b e y i r hi hr d j f hj)
 
 module _ (cp : Reader) where
   -- where q stands, the loop is what is read after the first particle

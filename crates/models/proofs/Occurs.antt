@@ -10,6 +10,7 @@ use mir.Syntax.{w64}
 use mir.Val.{Fits}
 use lib.Dec.{T, eqb}
 use lib.ListN.{length, get_or, drop}
+use Rattle.std.specs.Prelude.{Ok, Err}
 use Rattle.spec.specs.Grammar.Languages.{ascii, one_of}
 use Rattle.spec.specs.Reading.Readers.{nothing, choose, begins, char}
 use Rattle.spec.specs.Reading.Dtd.{occurs}
@@ -18,8 +19,8 @@ use Rattle.spec.proofs.Base.Tests.{true→T}
 use Rattle.spec.proofs.Base.Places.{drop_at, byte_in, front_at}
 use Rattle.spec.proofs.Characters.Utf8.{decode_1}
 use Rattle.spec.proofs.Agreement.FirstSign.{begins_sign}
-use Rattle.error.specs.Read.{said, read}
-use Rattle.error.specs.declared.Answer.TheVariants.{At}
+use Rattle.error.specs.Read.{said, read, refused}
+use Rattle.error.specs.declared.Fault.{Fault}
 
 -- the class as the code tests it
 abbrev mark : ℕ → Bool
@@ -43,13 +44,13 @@ module _ (s : List ℕ) (at b : ℕ) (e : b ≡ get_or s at 0) where
     pub occurs_fits : length s < 2 ^ 64 → Fits w64 (at + 1)
     occurs_fits h = let v = mark_in in omega arith
 
-    pub occurs_yes : said (At (at + 1)) ≡ read occurs s at
+    pub occurs_yes : said (Ok (at + 1)) ≡ read occurs s at
     unfolding read said occurs choose char
     occurs_yes =
         let f : one_of "?*+" b ≡ true = sym (mark_is b) ∙ y in
         rw (begun true y, drop_at s at mark_in, ← e, decode_1 b (drop (at + 1) s) (mark_low b (true→T _ f)), f)
 
-  pub occurs_no : mark b ≡ false → said (At at) ≡ read occurs s at
+  pub occurs_no : mark b ≡ false → said (Ok at) ≡ read occurs s at
   unfolding read said occurs choose nothing
   occurs_no n = rw (begun false n, add-zero)
 

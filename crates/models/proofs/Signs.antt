@@ -8,6 +8,7 @@ use borrow.Author.Rules.{rules}
 use borrow.Author.Tests.{not-true, not-false}
 use lib.Dec.{eqb}
 use lib.ListN.{length, get_or, drop}
+use Rattle.std.specs.Prelude.{Ok, Err}
 use Rattle.spec.specs.Basics.{pick}
 use Rattle.spec.specs.Grammar.Characters.{space}
 use Rattle.spec.specs.Reading.Refusals.{Refusal, unexpected}
@@ -17,9 +18,8 @@ use Rattle.spec.proofs.Base.Loops.{Somes}
 use Rattle.spec.proofs.Base.Results.{err_ok, ok_inj}
 use Rattle.spec.proofs.Base.Places.{drop_at, drop_end}
 use Rattle.spec.proofs.Base.Somes.{some_then}
-use Rattle.error.specs.Read.{Said, said, read}
-use Rattle.error.specs.declared.Answer.{Answer}
-use Rattle.error.specs.declared.Answer.TheVariants.{At, No}
+use Rattle.error.specs.Read.{Said, said, read, Answer, refused}
+use Rattle.error.specs.declared.Fault.{Fault}
 use Rattle.error.proofs.Laws.{seq_no, seq_at, took_nothing}
 use Rattle.cursor.proofs.Reading.{skip_then, skip_only}
 use Rattle.search.proofs.Words.{on_yes, on_no, word_yes, word_then, word_no, word_not, word_fits}
@@ -58,7 +58,7 @@ some_sign c n R = some_then (word_of (c ∷ []) n) R (record { some = λ b w. go
 
 -- the sign c stands at a place, as b says
 module _ (c : ℕ) (s : List ℕ) (at : ℕ) (b : Bool) (e : b ≡ starts (c ∷ []) (drop at s)) (y : b ≡ true) (n : Refusal) where
-  pub sign_yes : said (At (at + 1)) ≡ read (word_of (c ∷ []) n) s at
+  pub sign_yes : said (Ok (at + 1)) ≡ read (word_of (c ∷ []) n) s at
   sign_yes = word_yes (c ∷ []) s at b e n y
 
   pub sign_then : (B : Reader) (q : Said) → q ≡ read B s (at + 1) → q ≡ read (word_of (c ∷ []) n >> B) s at
@@ -69,11 +69,11 @@ abbrev pub after_sign : ℕ → Reader → Reader
 after_sign c R = word_of (c ∷ []) unexpected >> skip_s >> R >> skip_s
 
 module _ (c : ℕ) (R : Reader) (s : List ℕ) (at : ℕ) (b : Bool) (e : b ≡ starts (c ∷ []) (drop at s)) (y : b ≡ true) (i : ℕ) (r : Answer) (hi : i ≡ at + 1 + run space (drop (at + 1) s)) (hr : said r ≡ read R s i) where
-  pub after_no : (n k : ℕ) → r ≡ No n k → said r ≡ read (after_sign c R) s at
-  after_no n k f = sign_then c s at b e y unexpected (skip_s >> R >> skip_s) (said r) (skip_then s (at + 1) i hi (R >> skip_s) (said r) (seq_no R skip_s s i n k r hr f))
+  pub after_no : (x : Fault) → r ≡ Err x → said (Err x) ≡ read (after_sign c R) s at
+  after_no x f = sign_then c s at b e y unexpected (skip_s >> R >> skip_s) (said (Err x)) (skip_then s (at + 1) i hi (R >> skip_s) (said (Err x)) (seq_no R skip_s s i x r hr f))
 
-  pub after_at : (d j : ℕ) → r ≡ At d → j ≡ d + run space (drop d s) → said (At j) ≡ read (after_sign c R) s at
-  after_at d j f hj = sign_then c s at b e y unexpected (skip_s >> R >> skip_s) (said (At j)) (skip_then s (at + 1) i hi (R >> skip_s) (said (At j)) (seq_at R skip_s s i d r (said (At j)) hr f (skip_only s d j hj)))
+  pub after_at : (d j : ℕ) → r ≡ Ok d → j ≡ d + run space (drop d s) → said (Ok j) ≡ read (after_sign c R) s at
+  after_at d j f hj = sign_then c s at b e y unexpected (skip_s >> R >> skip_s) (said (Ok j)) (skip_then s (at + 1) i hi (R >> skip_s) (said (Ok j)) (seq_at R skip_s s i d r (said (Ok j)) hr f (skip_only s d j hj)))
 
 -- what the tests of signs search, and what code that reads signs, words and white space one after the other searches
 pub ruleset signs = (sign_in, sign_past, connector_is, rules)

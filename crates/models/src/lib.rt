@@ -1,4 +1,5 @@
 // Content models: parse_contentspec, parse_mixed, parse_children, parse_cp and parse_group of dtd.rs (productions 46 to 51).
+// Text, place and names stay three parameters (classes/src/lib.rt says why).
 #![tactic(auto)]
 
 ghost use Rattle.std.specs.Prelude.{◌≡◌, [], ◌∷◌, drop};
@@ -11,7 +12,7 @@ ghost use Rattle.models.specs.Parts.{group_end, mixed_names, mixed_end, model};
 
 use classes::Names;
 use cursor::{eat_str, need_name, skip_s};
-use error::Answer;
+use error::{Answer, Refusal};
 use search::at_keyword;
 use utf8::byte_at;
 
@@ -19,6 +20,7 @@ use utf8::byte_at;
 const GROUPS: usize = 64;
 
 // Whether the sign b stands at `at`.
+#[tactic(auto, using(crate::proofs::Signs::signs))]
 fn at_sign(s: &[u8], at: usize, b: u8) -> bool
     ensures { result ≡ starts (b ∷ []) (drop at s.now) }
 {
@@ -28,6 +30,8 @@ fn at_sign(s: &[u8], at: usize, b: u8) -> bool
     false
 }
 
+// '|' or ','. (One of two signs, as a quote mark is in decls; each is its own production.)
+#[tactic(auto, using(crate::proofs::Signs::signs))]
 fn at_connector(s: &[u8], at: usize) -> bool
     ensures { result ≡ connector (drop at s.now) }
 {
@@ -35,14 +39,15 @@ fn at_connector(s: &[u8], at: usize) -> bool
 }
 
 // ('?' | '*' | '+')?, at most one of them.
+#[tactic(auto, using(crate::proofs::Occurs::occurring))]
 fn occurrence_end(s: &[u8], at: usize) -> Answer
     ensures { said result ≡ read occurs s.now at }
 {
     let b = byte_at(s, at);
     if (b == b'?') | (b == b'*') | (b == b'+') {
-        return Answer::At(at + 1);
+        return Ok(at + 1);
     }
-    Answer::At(at)
+    Ok(at)
 }
 
 // [48] cp, in which so many groups may yet be opened.
@@ -51,16 +56,10 @@ fn parse_cp(s: &[u8], at: usize, height: usize, names: Names) -> Answer
     ensures { said result ≡ read (cp_of (dialect names) (parse_group (dialect names) too_deep height)) s.now at }
 {
     if at_sign(s, at, b'(') {
-        let r = parse_group(s, at, height, names);
-        let Answer::At(e) = r else {
-            return r;
-        };
+        let e = parse_group(s, at, height, names)?;
         return occurrence_end(s, e);
     }
-    let r = need_name(s, at, names);
-    let Answer::At(e) = r else {
-        return r;
-    };
+    let e = need_name(s, at, names)?;
     occurrence_end(s, e)
 }
 
@@ -75,19 +74,16 @@ fn group_end(s: &[u8], at: usize, height: usize, names: Names) -> Answer
     while at_connector(s, j) {
         if at_sign(s, j, sep) {
             let i = skip_s(s, j + 1);
-            let r = parse_cp(s, i, height, names);
-            let Answer::At(e) = r else {
-                return r;
-            };
+            let e = parse_cp(s, i, height, names)?;
             j = skip_s(s, e);
         } else {
-            return Answer::No(error::BAD_CONNECTOR, j);
+            return Err(Refusal::BadConnector.at(j));
         }
     }
     if at_sign(s, j, b')') {
-        return Answer::At(j + 1);
+        return Ok(j + 1);
     }
-    Answer::No(error::UNEXPECTED, j)
+    Err(Refusal::Unexpected.at(j))
 }
 
 // [49] choice and [50] seq, where so many groups may yet be opened, itself counted.
@@ -96,55 +92,49 @@ fn parse_group(s: &[u8], at: usize, height: usize, names: Names) -> Answer
     ensures { said result ≡ read (parse_group (dialect names) too_deep height) s.now at }
 {
     if height == 0 {
-        return Answer::No(error::TOO_DEEP, at);
+        return Err(Refusal::TooDeep.at(at));
     }
     if !at_sign(s, at, b'(') {
-        return Answer::No(error::UNEXPECTED, at);
+        return Err(Refusal::Unexpected.at(at));
     }
     let i = skip_s(s, at + 1);
-    let first = parse_cp(s, i, height - 1, names);
-    let Answer::At(e) = first else {
-        return first;
-    };
+    let e = parse_cp(s, i, height - 1, names)?;
     let j = skip_s(s, e);
     group_end(s, j, height - 1, names)
 }
 
 // [47] children, at the '(' where parse_contentspec calls it.
+#[tactic(auto, using(crate::proofs::Groups::children), unfolding(spec::specs::Reading::Dtd::parse_children))]
 pub fn parse_children(s: &[u8], at: usize, names: Names) -> Answer
     ensures { said result ≡ read (parse_children (dialect names) too_deep) s.now at }
 {
-    let r = parse_group(s, at, GROUPS, names);
-    let Answer::At(e) = r else {
-        return r;
-    };
+    let e = parse_group(s, at, GROUPS, names)?;
     occurrence_end(s, e)
 }
 
 // [51] Mixed from its first '|' on: names, and then ')*'.
+#[tactic(auto, using(crate::proofs::Contentspecs::mixed_loop), unfolding(crate::specs::Parts::mixed_names, spec::specs::Reading::Dtd::after))]
 fn mixed_names(s: &[u8], at: usize, names: Names) -> Answer
     ensures { said result ≡ read (mixed_names (dialect names)) s.now at }
 {
     let mut j = at;
     while at_sign(s, j, b'|') {
         let i = skip_s(s, j + 1);
-        let r = need_name(s, i, names);
-        let Answer::At(e) = r else {
-            return r;
-        };
+        let e = need_name(s, i, names)?;
         j = skip_s(s, e);
     }
     if !at_sign(s, j, b')') {
-        return Answer::No(error::UNEXPECTED, j);
+        return Err(Refusal::Unexpected.at(j));
     }
     let e = j + 1;
     if at_sign(s, e, b'*') {
-        return Answer::At(e + 1);
+        return Ok(e + 1);
     }
-    Answer::No(error::BAD_CONNECTOR, e)
+    Err(Refusal::BadConnector.at(e))
 }
 
 // [51] Mixed after "#PCDATA" and white space: without names the '*' may stand or not.
+#[tactic(auto, using(crate::proofs::Contentspecs::mixing), unfolding(crate::specs::Parts::mixed_end, crate::specs::Parts::mixed_names, spec::specs::Reading::Dtd::after))]
 fn mixed_end(s: &[u8], at: usize, names: Names) -> Answer
     ensures { said result ≡ read (mixed_end (dialect names)) s.now at }
 {
@@ -152,32 +142,31 @@ fn mixed_end(s: &[u8], at: usize, names: Names) -> Answer
         return mixed_names(s, at, names);
     }
     if !at_sign(s, at, b')') {
-        return Answer::No(error::UNEXPECTED, at);
+        return Err(Refusal::Unexpected.at(at));
     }
     let e = at + 1;
     if at_sign(s, e, b'*') {
-        return Answer::At(e + 1);
+        return Ok(e + 1);
     }
-    Answer::At(e)
+    Ok(e)
 }
 
 // [51] Mixed.
+#[tactic(auto, using(crate::proofs::Contentspecs::mixing), unfolding(spec::specs::Reading::Dtd::parse_mixed, crate::specs::Parts::mixed_end, crate::specs::Parts::mixed_names))]
 pub fn parse_mixed(s: &[u8], at: usize, names: Names) -> Answer
     ensures { said result ≡ read (parse_mixed (dialect names)) s.now at }
 {
     if !at_sign(s, at, b'(') {
-        return Answer::No(error::UNEXPECTED, at);
+        return Err(Refusal::Unexpected.at(at));
     }
     let i = skip_s(s, at + 1);
-    let r = eat_str(s, i, b"#PCDATA", error::UNEXPECTED);
-    let Answer::At(e) = r else {
-        return r;
-    };
+    let e = eat_str(s, i, b"#PCDATA", Refusal::Unexpected)?;
     let j = skip_s(s, e);
     mixed_end(s, j, names)
 }
 
 // Mixed or children: "#PCDATA" after the '(' tells which. parse_contentspec looks ahead in the same way.
+#[tactic(auto, using(crate::proofs::Contentspecs::modelled), unfolding(crate::specs::Parts::model))]
 fn parse_model(s: &[u8], at: usize, names: Names) -> Answer
     ensures { said result ≡ read (model (dialect names)) s.now at }
 {
@@ -188,20 +177,19 @@ fn parse_model(s: &[u8], at: usize, names: Names) -> Answer
         }
         return parse_children(s, at, names);
     }
-    Answer::No(error::UNEXPECTED, at)
+    Err(Refusal::Unexpected.at(at))
 }
 
 // [46] contentspec.
+#[tactic(auto, using(crate::proofs::Contentspecs::specified), unfolding(spec::specs::Reading::Dtd::parse_contentspec, crate::specs::Parts::model, spec::specs::Reading::Readers::on))]
 pub fn parse_contentspec(s: &[u8], at: usize, names: Names) -> Answer
     ensures { said result ≡ read (parse_contentspec (dialect names) too_deep) s.now at }
 {
-    let r = eat_str(s, at, b"EMPTY", error::UNEXPECTED);
-    if let Answer::At(e) = r {
-        return Answer::At(e);
+    if let Ok(e) = eat_str(s, at, b"EMPTY", Refusal::Unexpected) {
+        return Ok(e);
     }
-    let r = eat_str(s, at, b"ANY", error::UNEXPECTED);
-    if let Answer::At(e) = r {
-        return Answer::At(e);
+    if let Ok(e) = eat_str(s, at, b"ANY", Refusal::Unexpected) {
+        return Ok(e);
     }
     parse_model(s, at, names)
 }

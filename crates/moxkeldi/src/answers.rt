@@ -6,6 +6,7 @@ ghost use Rattle.spec.specs.Grammar.Names.{NCName};
 ghost use Rattle.spec.specs.Promises.{Tells};
 ghost use Rattle.moxkeldi.specs.Boundary.{ScansInto};
 
+use error::code;
 use scan::{Scanned, scan};
 
 // One of 0, 1 and 2, so that 0 says yes.
@@ -13,16 +14,23 @@ use scan::{Scanned, scan};
 pub extern "C" fn moxkeldi_check_utf8(text: &[u8]) -> u8
     ensures { Tells Text text.now result (eqb result 0) }
 {
-    source::admit(text)
+    code(source::is_utf8(text))
 }
 
 #[unsafe(no_mangle)]
 pub extern "C" fn moxkeldi_is_ncname(text: &[u8], yes: &mut bool) -> u8
     ensures { Tells (NCName appendix_b) text.now result yes.new }
 {
-    let verdict = ncnames::is_ncname(text);
-    *yes = verdict.yes;
-    verdict.number
+    match ncnames::is_ncname(text) {
+        Ok(is) => {
+            *yes = is;
+            0
+        }
+        Err(refusal) => {
+            *yes = false;
+            refusal.number()
+        }
+    }
 }
 
 // A refused scan leaves both places as they were, and `place` is written only where there is one to name.
@@ -30,21 +38,20 @@ pub extern "C" fn moxkeldi_is_ncname(text: &[u8], yes: &mut bool) -> u8
 pub extern "C" fn moxkeldi_scan(text: &[u8], answer: &mut u8, place: &mut usize) -> u8
     ensures { ScansInto text.now answer.old place.old result answer.new place.new }
 {
-    let said = scan(text);
-    match said {
-        Scanned::NotOpened => {
+    match scan(text) {
+        Ok(Scanned::NotOpened) => {
             *answer = 0;
             0
         }
-        Scanned::NotClosed => {
+        Ok(Scanned::NotClosed) => {
             *answer = 1;
             0
         }
-        Scanned::Closed(at) => {
+        Ok(Scanned::Closed(at)) => {
             *answer = 2;
             *place = at;
             0
         }
-        Scanned::Refused(number) => number,
+        Err(refusal) => refusal.number(),
     }
 }

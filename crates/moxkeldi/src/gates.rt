@@ -3,7 +3,8 @@ ghost use Rattle.std.specs.Prelude.{◌≡◌};
 ghost use Rattle.gate.specs.Promises.{Declares};
 ghost use Rattle.moxkeldi.specs.Boundary.{code_of, DocksCoded};
 
-use gate::{Gate, Reply};
+use error::{Refusal, code};
+use gate::{Docked, Gate};
 
 // MOXKELDI_OPEN: no number of the table.
 const OPEN: u8 = 255;
@@ -12,15 +13,18 @@ const OPEN: u8 = 255;
 pub extern "C" fn moxkeldi_decl(gate: &mut Gate, text: &[u8]) -> u8
     ensures { Declares gate.old text.now gate.new result }
 {
-    gate::decl(gate, text)
+    code(gate.decl(text))
 }
 
-fn code(reply: Reply) -> u8
+// C takes numbers.
+#[tactic(auto, unfolding(crate::specs::Boundary::code_of))]
+fn reply_code(reply: Result<Docked, Refusal>) -> u8
     ensures { result ≡ code_of reply }
 {
     match reply {
-        Reply::Open => OPEN,
-        Reply::Number(number) => number,
+        Ok(Docked::Whole) => 0,
+        Ok(Docked::Open) => OPEN,
+        Err(refusal) => refusal.number(),
     }
 }
 
@@ -28,6 +32,5 @@ fn code(reply: Reply) -> u8
 pub extern "C" fn moxkeldi_doctype(gate: &mut Gate, phase: u8, text: &[u8]) -> u8
     ensures { DocksCoded gate.old phase text.now gate.new result }
 {
-    let reply = gate::doctype(gate, phase, text);
-    code(reply)
+    reply_code(gate.doctype(phase, text))
 }

@@ -1,31 +1,35 @@
 -- Names at a place in a text: the code's loop over name characters, for any classes. Assumes nothing.
 use mathlib.Core.Path.{◌≡◌, refl, sym, ap, subst, ◌∙◌}
-use mathlib.Core.Bool.{Bool, true, false, ◌||◌, not, true≢false}
-use mathlib.Core.List.{List}
-use Prim.Native.Nat.{ℕ, ◌+◌, ◌-◌, ◌^◌, ◌<◌, ◌≤◌}
-use native.Mathlib.Nat.{add_assoc, add-zero, zero-add}
+use mathlib.Core.Bool.{Bool, true, false, cond, ◌&&◌, not}
+use mathlib.Core.List.{List, [], ◌∷◌}
+use Prim.Native.Nat.{ℕ, suc, ◌+◌, ◌-◌, ◌^◌, ◌<◌, ◌≤◌}
+use native.Mathlib.Nat.{add-zero, zero-add}
 use native.Mathlib.Omega.{arith}
 use borrow.Author.Rules.{rules}
-use borrow.Author.Tests.{not-true, not-false}
+use borrow.Author.Tests.{ltb-false}
 use mir.Syntax.{w64}
 use mir.Val.{Fits}
+use lib.Dec.{ltb}
 use lib.ListN.{length, take, drop, get_or, length-drop}
 use lib.Seq.{drop-drop, take-nil, length-take-le}
 use Rattle.spec.specs.Grammar.Names.{Dialect, Name}
-use Rattle.spec.specs.Reading.Refusals.{number, bad_name}
+use Rattle.spec.specs.Reading.Refusals.{bad_name}
 use Rattle.spec.specs.Reading.Utf8.{decode1}
 use Rattle.spec.specs.Reading.Readers.{Result, ok, err, number_of, taken, past, ◌>>◌, at_end, char}
 use Rattle.spec.specs.Reading.Wellformed.{parts, name, name_length, check_name}
-use Rattle.spec.proofs.Base.Tests.{or_false_left, or_false_right}
+use Rattle.spec.proofs.Base.Tests.{and_left, and_right}
 use Rattle.spec.proofs.Base.Places.{drop_at, drop_end, take_rest}
+use Rattle.spec.proofs.Characters.Utf8.{decode_1}
+use Rattle.std.specs.List.{position_or_len, fold}
+use Rattle.std.specs.Option.{unwrap_or}
 use Rattle.spec.proofs.Wellformed.LongestName.{char_is, char_not, char_none, chars_stop, chars_turn, parts_ok, parts_takes, name_first, name_none, Named, a_name, no_name, named, name_within, name_is_name, name_longest}
+use Rattle.std.specs.Prelude.{Option, Some, None, Ok, Err}
 use Rattle.error.specs.Read.{passed, refused, said, read}
-use Rattle.error.specs.declared.Answer.TheVariants.{At, No}
+use Rattle.error.specs.declared.Fault.{Fault}
 use Rattle.error.proofs.Laws.{answered}
 use Rattle.utf8.specs.Seen.{seen}
 use Rattle.utf8.specs.declared.Point.{Point}
-use Rattle.utf8.specs.declared.Point.TheVariants.{Is, Not}
-use Rattle.utf8.proofs.Points.{code_at, none_at, point_fits, point_less}
+use Rattle.utf8.proofs.Points.{code_at, none_at, point_end, point_fits, point_less}
 use Rattle.utf8.proofs.Decoding.{code_one}
 use Rattle.classes.specs.Classes.{dialect, ascii_start, ascii_part}
 use Rattle.names.specs.Names.{AsciiRun, AnyName}
@@ -39,89 +43,190 @@ module _ (q : ℕ → Bool) (s : List ℕ) (i : ℕ) where
   unfolding char decode1
   none_past h = rw (drop_end s i h)
 
-  module _ (p : Point) (a : seen p ≡ decode1 (drop i s)) where
-    pub none_point : p ≡ Not → char q bad_name (drop i s) ≡ err bad_name 0
-    none_point b = char_none q bad_name (drop i s) (none_at s i p a b)
+  module _ (o : Option Point) (a : seen o ≡ decode1 (drop i s)) where
+    pub none_point : o ≡ None → char q bad_name (drop i s) ≡ err bad_name 0
+    none_point b = char_none q bad_name (drop i s) (none_at s i o a b)
 
-    module _ (c k : ℕ) (b : p ≡ Is c k) (r : Bool) (e : r ≡ q c) where
+    module _ (p : Point) (b : o ≡ Some p) (r : Bool) (e : r ≡ q p.code) where
       pub none_class : r ≡ false → char q bad_name (drop i s) ≡ err bad_name 0
-      none_class n = char_not q bad_name (drop i s) c k (code_at s i c k p a b) (sym e ∙ n)
+      none_class n = char_not q bad_name (drop i s) p.code p.width (code_at s i o p a b) (sym e ∙ n)
 
-      pub one_class : r ≡ true → char q bad_name (drop i s) ≡ ok k
-      one_class y = char_is q bad_name (drop i s) c k (code_at s i c k p a b) (sym e ∙ y)
+      pub one_class : r ≡ true → char q bad_name (drop i s) ≡ ok p.width
+      one_class y = char_is q bad_name (drop i s) p.code p.width (code_at s i o p a b) (sym e ∙ y)
 
-  -- the same at a byte below 128
-  module _ (r : Bool) (e : r ≡ q (get_or s i 0)) (h : i < length s) (l : get_or s i 0 < 128) where
-    pub none_low : r ≡ false → char q bad_name (drop i s) ≡ err bad_name 0
-    none_low = none_class (Is (get_or s i 0) 1) (code_one s i h l) (get_or s i 0) 1 refl r e
+-- the same of a byte below 128 that stands first
+module _ (q : ℕ → Bool) (b : ℕ) (w : List ℕ) (r : Bool) (e : r ≡ q b) (l : b < 128) where
+  none_sign : r ≡ false → char q bad_name (b ∷ w) ≡ err bad_name 0
+  none_sign n = char_not q bad_name (b ∷ w) b 1 (decode_1 b w l) (sym e ∙ n)
 
-    pub one_low : r ≡ true → char q bad_name (drop i s) ≡ ok 1
-    one_low = one_class (Is (get_or s i 0) 1) (code_one s i h l) (get_or s i 0) 1 refl r e
+  one_sign : r ≡ true → char q bad_name (b ∷ w) ≡ ok 1
+  one_sign y = char_is q bad_name (b ∷ w) b 1 (decode_1 b w l) (sym e ∙ y)
 
--- a run of name characters, of which i is the next place
-module _ (D : Dialect) (s : List ℕ) (i W : ℕ) (inv : i + taken (parts D (drop i s)) ≡ W) where
-  pub parts_stop : char D.part bad_name (drop i s) ≡ err bad_name 0 → i ≡ W
+-- a run of name characters, by its first
+module _ (D : Dialect) (w : List ℕ) where
+  parts_none : char D.part bad_name w ≡ err bad_name 0 → taken (parts D w) ≡ 0
   unfolding parts
-  parts_stop e = rw (chars_stop D.part bad_name (drop i s) e, add-zero) at inv
+  parts_none e = ap taken (chars_stop D.part bad_name w e)
 
-  pub parts_go : (k : ℕ) → char D.part bad_name (drop i s) ≡ ok k → i + k + taken (parts D (drop (i + k) s)) ≡ W
-  parts_go k e =
-      let t : parts D (drop i s) ≡ past k (parts D (drop (i + k) s)) = unfold parts in (chars_turn D.part bad_name (drop i s) k e ∙ (rw drop-drop)) in
-      let n : taken (parts D (drop i s)) ≡ k + taken (parts D (drop (i + k) s)) = ap taken (t ∙ ap (past k) (parts_ok D (drop (i + k) s))) in
-      omega arith
+  parts_more : (k : ℕ) → char D.part bad_name w ≡ ok k → taken (parts D w) ≡ k + taken (parts D (drop k w))
+  parts_more k e =
+      let t : parts D w ≡ past k (parts D (drop k w)) = unfold parts in chars_turn D.part bad_name w k e in
+      ap taken (t ∙ ap (past k) (parts_ok D (drop k w)))
 
--- the ASCII loop, whatever the edition
-module _ (s : List ℕ) (at i : ℕ) (inv : (names : Names) → i + taken (parts (dialect names) (drop i s)) ≡ at + taken (parts (dialect names) (drop at s))) where
-  pub ascii_past : length s ≤ i → AsciiRun s at i
-  ascii_past h = record { among = inv; ends = λ names l. parts_stop (dialect names) s i _ (inv names) (none_past (dialect names).part s i h) }
+-- The loop that decodes. The invariant: the name characters from i on end where all do.
+module _ (names : Names) (s : List ℕ) (i : ℕ) (inv : i + taken (parts (dialect names) (drop i s)) ≡ taken (parts (dialect names) s)) (o : Option Point) (a : seen o ≡ decode1 (drop i s)) where
+  stops : char (dialect names).part bad_name (drop i s) ≡ err bad_name 0 → i ≡ taken (parts (dialect names) s)
+  stops e = rw (parts_none (dialect names) (drop i s) e, add-zero) at inv
 
-  module _ (r : Bool) (e : r ≡ ascii_part (get_or s i 0)) (h : i < length s) where
-    pub ascii_stop : r ≡ false → AsciiRun s at i
-    ascii_stop n =
-        record {
-          among = inv;
-          ends = λ names l. parts_stop (dialect names) s i _ (inv names) (none_low (dialect names).part s i r (part_low names (get_or s i 0) r l e) h l n);
-        }
+  pub run_none : o ≡ None → i ≡ taken (parts (dialect names) s)
+  run_none b = stops (none_point (dialect names).part s i o a b)
 
-    pub ascii_go : r ≡ true → (names : Names) → i + 1 + taken (parts (dialect names) (drop (i + 1) s)) ≡ at + taken (parts (dialect names) (drop at s))
-    ascii_go y names =
-        let l : get_or s i 0 < 128 = sign_low (get_or s i 0) (sym e ∙ y) in
-        parts_go (dialect names) s i _ (inv names) 1 (one_low (dialect names).part s i r (part_low names (get_or s i 0) r l e) h l y)
+  module _ (p : Point) (b : o ≡ Some p) (t : Bool) (e : t ≡ (dialect names).part p.code) where
+    pub run_stop : t ≡ false → i ≡ taken (parts (dialect names) s)
+    run_stop n = stops (none_class (dialect names).part s i o a p b t e n)
 
--- and what it leaves: nothing, an ASCII sign, or a byte to decode
-module _ (names : Names) (s : List ℕ) (at i : ℕ) (a : AsciiRun s at i) where
-  pub run_past : length s ≤ i → i ≡ at + taken (parts (dialect names) (drop at s))
-  run_past h = parts_stop (dialect names) s i _ (a.among names) (none_past (dialect names).part s i h)
+    pub run_go : t ≡ true → i + p.width + taken (parts (dialect names) (drop (i + p.width) s)) ≡ taken (parts (dialect names) s)
+    run_go y =
+        let n : taken (parts (dialect names) (drop i s)) ≡ p.width + taken (parts (dialect names) (drop (i + p.width) s)) = parts_more (dialect names) (drop i s) p.width (one_class (dialect names).part s i o a p b t e y) ∙ (rw drop-drop) in
+        omega arith
 
-  pub run_ends : get_or s i 0 < 128 → i ≡ at + taken (parts (dialect names) (drop at s))
+-- the same at a sign below 128
+module _ (names : Names) (s : List ℕ) (i : ℕ) (inv : i + taken (parts (dialect names) (drop i s)) ≡ taken (parts (dialect names) s)) (h : i < length s) (l : get_or s i 0 < 128) (t : Bool) (e : t ≡ ascii_part (get_or s i 0)) where
+  pub sign_stop : t ≡ false → i ≡ taken (parts (dialect names) s)
+  sign_stop = run_stop names s i inv _ (code_one s i h l) _ refl t (part_low names (get_or s i 0) t l e)
+
+  pub sign_go : t ≡ true → i + 1 + taken (parts (dialect names) (drop (i + 1) s)) ≡ taken (parts (dialect names) s)
+  sign_go = run_go names s i inv _ (code_one s i h l) _ refl t (part_low names (get_or s i 0) t l e)
+
+pub past_stop : (names : Names) (s : List ℕ) (i : ℕ) → i + taken (parts (dialect names) (drop i s)) ≡ taken (parts (dialect names) s) → length s ≤ i → i ≡ taken (parts (dialect names) s)
+past_stop names s i inv h = rw (parts_none (dialect names) (drop i s) (none_past (dialect names).part s i h), add-zero) at inv
+
+-- the name characters below 128, whatever the edition
+abbrev ascii_part_len : List ℕ → ℕ
+ascii_part_len w = position_or_len (λ b. not (ascii_part b)) w
+
+ascii_run : (w : List ℕ) → AsciiRun w (ascii_part_len w)
+ascii_run [] = record { among = λ names. zero-add _; ends = λ names l. sym (parts_none (dialect names) [] (none_past (dialect names).part [] 0 (omega arith))) }
+ascii_run (b ∷ w) = go (ascii_part b) refl (ascii_run w)
+  where
+    go : (t : Bool) → ascii_part b ≡ t → AsciiRun w (ascii_part_len w) → AsciiRun (b ∷ w) (cond (not (not t)) (1 + ascii_part_len w) 0)
+    go false e rest = record { among = λ names. zero-add _; ends = λ names l. sym (parts_none (dialect names) (b ∷ w) (none_sign (dialect names).part b w false (part_low names b false l (sym e)) l refl)) }
+    go true e rest =
+        let l : b < 128 = sign_low b e in
+        let first : (names : Names) → taken (parts (dialect names) (b ∷ w)) ≡ 1 + taken (parts (dialect names) w) = λ names. parts_more (dialect names) (b ∷ w) 1 (one_sign (dialect names).part b w true (part_low names b true l (sym e)) l refl) in
+        let next : suc (ascii_part_len w) ≡ 1 + ascii_part_len w = omega arith in
+        subst (AsciiRun (b ∷ w)) next (record {
+          among = λ names. omega (arith, first names, rest.among names);
+          ends = λ names h. omega (arith, first names, rest.ends names h);
+        })
+
+ascii_within : (w : List ℕ) → ascii_part_len w ≤ length w
+ascii_within [] = omega arith
+ascii_within (b ∷ w) = go (not (not (ascii_part b))) (ascii_within w)
+  where
+    go : (t : Bool) → ascii_part_len w ≤ length w → cond t (1 + ascii_part_len w) 0 ≤ suc (length w)
+    go true h = omega arith
+    go false h = omega arith
+
+pub ascii_found : (w : List ℕ) (o : Option ℕ) (r : ℕ) → o ≡ cond (ltb (ascii_part_len w) (length w)) (Some (ascii_part_len w)) None → r ≡ unwrap_or o (length w) → AsciiRun w r
+ascii_found w o r e f = subst (AsciiRun w) (sym (f ∙ ap (λ (x : Option ℕ). unwrap_or x (length w)) e ∙ go (ltb n (length w)) refl)) (ascii_run w)
+  where
+    n : ℕ
+    n = ascii_part_len w
+
+    go : (t : Bool) → ltb n (length w) ≡ t → unwrap_or (cond t (Some n) None) (length w) ≡ n
+    go true g = refl
+    go false g = let z = ascii_within w in let y : length w ≤ n = ltb-false n (length w) g in omega arith
+
+-- and what they leave: nothing, an ASCII sign, or a byte to decode
+module _ (names : Names) (s : List ℕ) (n : ℕ) (a : AsciiRun s n) where
+  pub run_ends : get_or s n 0 < 128 → n ≡ taken (parts (dialect names) s)
   run_ends l = a.ends names l
 
-  pub run_on : (e : ℕ) → e ≡ i + taken (parts (dialect names) (drop i s)) → e ≡ at + taken (parts (dialect names) (drop at s))
-  run_on e f = f ∙ a.among names
+  pub run_past : length s ≤ n → n ≡ taken (parts (dialect names) s)
+  run_past h = rw (parts_none (dialect names) (drop n s) (none_past (dialect names).part s n h), add-zero) at (a.among names)
 
--- past the end, and in the rest of a text, of which e bytes are name characters
-pub rest_none : (D : Dialect) (s : List ℕ) (at : ℕ) → length s ≤ at → at ≡ at + taken (parts D (drop at s))
-rest_none D s at h = parts_stop D s at _ refl (none_past D.part s at h)
+  module _ (e : ℕ) (f : e ≡ taken (parts (dialect names) (take (length s - n) (drop n s)))) where
+    pub run_on : n + e ≡ taken (parts (dialect names) s)
+    run_on = ap (λ (x : ℕ). n + x) (f ∙ (rw (take_rest s n))) ∙ a.among names
 
-module _ (D : Dialect) (s : List ℕ) (at e : ℕ) (a : e ≡ 0 + taken (parts D (drop 0 (take (length s - at) (drop at s))))) where
-  rest_taken : e ≡ taken (parts D (drop at s))
-  rest_taken = a ∙ (rw (zero-add, take_rest s at))
+    pub run_fits : length s < 2 ^ 64 → Fits w64 (n + e)
+    run_fits h = omega (arith, run_on, (parts_takes (dialect names) s).within)
 
-  pub rest_is : at + e ≡ at + taken (parts D (drop at s))
-  rest_is = rw rest_taken
+-- the name that stands first, by its first character
+module _ (names : Names) (s : List ℕ) where
+  no_start : char (dialect names).start bad_name s ≡ err bad_name 0 → 0 ≡ name_length (dialect names) s
+  unfolding name_length
+  no_start e = rw (name_none (dialect names) s e)
 
-  pub rest_fits : at < length s → length s < 2 ^ 64 → Fits w64 (at + e)
-  rest_fits h g = omega (arith, rest_taken, (parts_takes D (drop at s)).within, length-drop at s)
+  pub no_name_past : length s ≡ 0 → 0 ≡ name_length (dialect names) s
+  no_name_past h = no_start (none_past (dialect names).start s 0 (omega arith))
 
--- the name at a place, by its first character
+  module _ (k e : ℕ) (g : e ≡ taken (parts (dialect names) (take (length s - k) (drop k s)))) where
+    a_start : char (dialect names).start bad_name s ≡ ok k → k + e ≡ name_length (dialect names) s
+    unfolding name_length
+    a_start f =
+        let z : e ≡ taken (parts (dialect names) (drop k s)) = g ∙ (rw (take_rest s k)) in
+        ap (λ (x : ℕ). k + x) z ∙ (rw (name_first (dialect names) s k f, parts_ok (dialect names) (drop k s)))
+
+    start_fits : k + e ≡ name_length (dialect names) s → length s < 2 ^ 64 → Fits w64 (k + e)
+    start_fits f h = omega (arith, name_within (dialect names) s)
+
+  -- a sign below 128
+  module _ (h : length s ≡ 0 → ⊥) (l : get_or s 0 0 < 128) (t : Bool) (e : t ≡ ascii_start (get_or s 0 0)) where
+    low : seen (Some (record { code = get_or s 0 0; width = 1 })) ≡ decode1 (drop 0 s)
+    low = code_one s 0 (omega arith) l
+
+    pub no_name_sign : t ≡ false → 0 ≡ name_length (dialect names) s
+    no_name_sign n = no_start (none_class (dialect names).start s 0 _ low _ refl t (start_low names (get_or s 0 0) t l e) n)
+
+    module _ (y : t ≡ true) (k : ℕ) (g : k ≡ taken (parts (dialect names) (take (length s - 1) (drop 1 s)))) where
+      pub name_sign : 1 + k ≡ name_length (dialect names) s
+      name_sign = a_start 1 k g (one_class (dialect names).start s 0 _ low _ refl t (start_low names (get_or s 0 0) t l e) y)
+
+      pub name_sign_fits : length s < 2 ^ 64 → Fits w64 (1 + k)
+      name_sign_fits = start_fits 1 k g name_sign
+
+  -- a character that is decoded
+  module _ (o : Option Point) (a : seen o ≡ decode1 (drop 0 s)) where
+    pub no_name_point : o ≡ None → 0 ≡ name_length (dialect names) s
+    no_name_point b = no_start (none_point (dialect names).start s 0 o a b)
+
+    module _ (p : Point) (b : o ≡ Some p) (t : Bool) (e : t ≡ (dialect names).start p.code) where
+      pub no_name_class : t ≡ false → 0 ≡ name_length (dialect names) s
+      no_name_class n = no_start (none_class (dialect names).start s 0 o a p b t e n)
+
+      module _ (y : t ≡ true) (k : ℕ) (g : k ≡ taken (parts (dialect names) (take (length s - p.width) (drop p.width s)))) where
+        pub name_class : p.width + k ≡ name_length (dialect names) s
+        name_class = a_start p.width k g (one_class (dialect names).start s 0 o a p b t e y)
+
+        pub name_class_fits : length s < 2 ^ 64 → Fits w64 (p.width + k)
+        name_class_fits = start_fits p.width k g name_class
+
+pub width_in : (s : List ℕ) (o : Option Point) (p : Point) → seen o ≡ decode1 (drop 0 s) → o ≡ Some p → p.width ≤ length s
+width_in s o p a b = omega (arith, point_end s 0 o p a b)
+
+-- in the rest of a text
 module _ (D : Dialect) (s : List ℕ) (at : ℕ) where
-  pub name_stop : char D.start bad_name (drop at s) ≡ err bad_name 0 → at ≡ at + name_length D (drop at s)
-  unfolding name_length
-  name_stop e = rw (name_none D (drop at s) e, add-zero)
+  pub rest_no_parts : length s < at → at ≡ at + taken (parts D (drop at s))
+  rest_no_parts h = rw (parts_none D (drop at s) (none_past D.part s at (omega arith)), add-zero)
 
-  pub name_go : (k e : ℕ) → char D.start bad_name (drop at s) ≡ ok k → e ≡ at + k + taken (parts D (drop (at + k) s)) → e ≡ at + name_length D (drop at s)
+  pub rest_no_name : length s < at → at ≡ at + name_length D (drop at s)
   unfolding name_length
-  name_go k e f g = g ∙ (rw (name_first D (drop at s) k f, drop-drop, parts_ok D (drop (at + k) s), add_assoc))
+  rest_no_name h = rw (name_none D (drop at s) (none_past D.start s at (omega arith)), add-zero)
+
+  module _ (e : ℕ) where
+    pub rest_parts : e ≡ taken (parts D (take (length s - at) (drop at s))) → at + e ≡ at + taken (parts D (drop at s))
+    rest_parts f = rw (f, take_rest s at)
+
+    pub rest_parts_fits : at ≤ length s → e ≡ taken (parts D (take (length s - at) (drop at s))) → length s < 2 ^ 64 → Fits w64 (at + e)
+    rest_parts_fits h f g = let z = rw (take_rest s at) at f in omega (arith, (parts_takes D (drop at s)).within, length-drop at s)
+
+    pub rest_name : e ≡ name_length D (take (length s - at) (drop at s)) → at + e ≡ at + name_length D (drop at s)
+    rest_name f = rw (f, take_rest s at)
+
+    pub rest_name_fits : at ≤ length s → e ≡ name_length D (take (length s - at) (drop at s)) → length s < 2 ^ 64 → Fits w64 (at + e)
+    rest_name_fits h f g = let z = rw (take_rest s at) at f in omega (arith, name_within D (drop at s), length-drop at s)
 
 -- the part that a name is
 module _ (D : Dialect) (s : List ℕ) (at : ℕ) where
@@ -137,15 +242,12 @@ module _ (D : Dialect) (s : List ℕ) (at : ℕ) where
         longest = λ u v f g. rw n (name_longest D (drop at s) u v f g);
       }
 
-  pub part_past : length s < at → NamePart D (drop at s) (take 0 s)
-  part_past h = let g : length s ≤ at = omega arith in part_is (take 0 s) (rw (drop_end s at g, take-nil))
+  pub part_past : length s < at → NamePart D (drop at s) []
+  part_past h = let g : length s ≤ at = omega arith in part_is [] (rw (drop_end s at g, take-nil))
 
-  module _ (e : ℕ) (f : e ≡ at + name_length D (drop at s)) where
-    pub part_within : at ≤ length s → e ≤ length s
-    part_within h = let v = simp length-drop at (name_within D (drop at s)) in omega arith
-
-    pub part_at : NamePart D (drop at s) (take (e - at) (drop at s))
-    part_at = let z : e - at ≡ name_length D (drop at s) = omega arith in part_is (take (e - at) (drop at s)) (rw z)
+  -- the rest of the text, of which the first e bytes are the name
+  pub part_at : (w : List ℕ) (e : ℕ) → w ≡ take (length s - at) (drop at s) → e ≡ name_length D w → NamePart D (drop at s) (take e w)
+  part_at w e f g = part_is (take e w) (rw (g, f, take_rest s at))
 
 -- what is read where only a name may stand, by where the name at the place ends
 module _ (D : Dialect) (s : List ℕ) (at e : ℕ) (f : e ≡ at + name_length D (drop at s)) where
@@ -153,11 +255,11 @@ module _ (D : Dialect) (s : List ℕ) (at e : ℕ) (f : e ≡ at + name_length D
   unfolding name_length
   ends_at x g = f ∙ (rw g)
 
-  pub whole_none : e ≡ at → said (No (number bad_name) at) ≡ read (check_name D) s at
-  unfolding read said check_name ◌>>◌
-  whole_none z = go (named D (drop at s))
+  pub whole_none : (x : Fault) → e ≡ at → said (Err x) ≡ refused bad_name e → said (Err x) ≡ read (check_name D) s at
+  unfolding read check_name ◌>>◌
+  whole_none x z r = r ∙ ap (refused bad_name) z ∙ go (named D (drop at s))
     where
-      go : Named D (drop at s) → said (No (number bad_name) at) ≡ read (check_name D) s at
+      go : Named D (drop at s) → refused bad_name at ≡ read (check_name D) s at
       go (a_name k p g t) = absurd (omega (arith, ends_at (ok k) g))
       go (no_name g n) = rw (g, add-zero)
 
@@ -169,68 +271,52 @@ module _ (D : Dialect) (s : List ℕ) (at e : ℕ) (f : e ≡ at + name_length D
         go (a_name k p g t) = (k, (g, ends_at (ok k) g))
         go (no_name g n) = absurd (some (ends_at (err bad_name 0) g ∙ add-zero at))
 
-    pub whole_more : e < length s → said (No (number bad_name) e) ≡ read (check_name D) s at
-    unfolding read said check_name ◌>>◌ at_end
-    whole_more h =
+    pub whole_more : (x : Fault) → e < length s → said (Err x) ≡ refused bad_name e → said (Err x) ≡ read (check_name D) s at
+    unfolding read check_name ◌>>◌ at_end
+    whole_more x h r =
         let (k, (g, l)) = a_name_to in
         let z : at + k < length s = omega arith in
-        ap (refused (number bad_name)) l ∙ (rw (g, drop-drop, drop_at s (at + k) z, add-zero))
+        r ∙ ap (refused bad_name) l ∙ (rw (g, drop-drop, drop_at s (at + k) z, add-zero))
 
-    pub whole_all : length s ≤ e → said (At e) ≡ read (check_name D) s at
+    pub whole_all : length s ≤ e → said (Ok e) ≡ read (check_name D) s at
     unfolding read said check_name ◌>>◌ at_end
     whole_all h =
         let (k, (g, l)) = a_name_to in
         let z : length s ≤ at + k = omega arith in
         ap passed l ∙ (rw (g, drop-drop, drop_end s (at + k) z, add-zero))
 
--- a name of ASCII alone, whatever the edition: the name at the front of w goes on at i
-pub record Front (w : List ℕ) (i : ℕ) : Type 0 where
-  pub some : 1 ≤ i
-  pub onward : (names : Names) → i + taken (parts (dialect names) (drop i w)) ≡ 0 + name_length (dialect names) (drop 0 w)
+-- a name of ASCII alone, whatever the edition: it begins with b, and goes on to its end
+abbrev pub all_parts : Bool → ℕ → Bool
+all_parts a b = a && ascii_part b
 
-module _ (w : List ℕ) (t : Bool) where
-  pub front_start : (length w ≡ 0 → ⊥) → t ≡ ascii_start (get_or w 0 0) → not t ≡ false → Front w 1
-  front_start h e n =
-      let y : t ≡ true = not-false t n in
-      let l : get_or w 0 0 < 128 = sign_low (get_or w 0 0) (start_part (get_or w 0 0) (sym e ∙ y)) in
-      record {
-        some = omega arith;
-        onward = λ names. name_go (dialect names) w 0 1 _ (one_low (dialect names).start w 0 t (start_low names (get_or w 0 0) t l e) (omega arith) l y) refl;
-      }
+runs_out : (w : List ℕ) (a : Bool) → fold all_parts a w ≡ true → (a ≡ true) × ((names : Names) → length w ≡ taken (parts (dialect names) w))
+runs_out [] a e = (e, λ names. sym (parts_none (dialect names) [] (none_past (dialect names).part [] 0 (omega arith))))
+runs_out (b ∷ w) a e =
+    let (f, rest) = runs_out w (a && ascii_part b) e in
+    let y : ascii_part b ≡ true = and_right a (ascii_part b) f in
+    let l : b < 128 = sign_low b y in
+    (and_left a (ascii_part b) f, λ names. omega (arith, rest names, parts_more (dialect names) (b ∷ w) 1 (one_sign (dialect names).part b w true (part_low names b true l (sym y)) l refl)))
 
-  pub front_go : (i : ℕ) (found : Bool) → (found ≡ false → Front w i) → i < length w → t ≡ ascii_part (get_or w i 0) → found || not t ≡ false → Front w (i + 1)
-  front_go i found inv h e f =
-      let y : t ≡ true = not-false t (or_false_right found (not t) f) in
-      let l : get_or w i 0 < 128 = sign_low (get_or w i 0) (sym e ∙ y) in
-      let a = inv (or_false_left found (not t) f) in
-      record {
-        some = omega (arith, a.some);
-        onward = λ names. parts_go (dialect names) w i _ (a.onward names) 1 (one_low (dialect names).part w i t (part_low names (get_or w i 0) t l e) h l y);
-      }
+pub any_name : (b : ℕ) (w : List ℕ) (t : Bool) → t ≡ ascii_start b → t ≡ true → fold all_parts true w ≡ true → AnyName (b ∷ w)
+any_name b w t e y f =
+    let rest = runs_out w true f in
+    let l : b < 128 = sign_low b (start_part b (sym e ∙ y)) in
+    record {
+      accepted = λ names.
+          let g : 1 + length w ≡ name_length (dialect names) (b ∷ w) = name_sign names (b ∷ w) (λ z. omega arith) l t e y (length w) (rw (take_rest (b ∷ w) 1) (rest.1 names)) in
+          answered (check_name (dialect names)) (b ∷ w) (Ok (1 + length w)) (whole_all (dialect names) (b ∷ w) 0 (1 + length w) (omega (arith, g)) (λ z. omega arith) (omega arith));
+    }
 
-  pub front_whole : (i : ℕ) → (t ≡ false → Front w i) → length w ≤ i → not t ≡ true → AnyName w
-  front_whole i inv h e =
-      let a = inv (not-true t e) in
-      record {
-        accepted = λ names.
-            answered (check_name (dialect names)) w (At i) 0 (whole_all (dialect names) w 0 i (parts_stop (dialect names) w i _ (a.onward names) (none_past (dialect names).part w i h)) (λ z. omega (arith, a.some)) h) refl;
-      }
+pub number_any : (w : List ℕ) (t : Bool) (names : Names) → t ≡ true → (t ≡ true → AnyName w) → 0 ≡ number_of (check_name (dialect names) w)
+number_any w t names y a = (a y).accepted names
 
-  pub number_any : (names : Names) → t ≡ true → (t ≡ true → AnyName w) → 0 ≡ number_of (check_name (dialect names) w)
-  number_any names y a = (a y).accepted names
+-- what the loop over name characters searches, and what the calls around it do
+pub ruleset loops = (past_stop, sign_stop, sign_go, run_none, run_stop, run_go, point_fits, point_less)
 
-pub not_found : (w : List ℕ) → false ≡ true → AnyName w
-not_found w e = absurd (true≢false (sym e))
+pub ruleset asciis = (run_past, run_ends, run_on, run_fits)
 
--- what the loops over name characters search, and what the calls around them do
-pub ruleset loops = (none_past, none_point, none_class, one_class, none_low, one_low, part_low, parts_stop, parts_go, point_fits, point_less, rules)
+pub ruleset firsts = (no_name_past, no_name_sign, name_sign, name_sign_fits, no_name_point, no_name_class, name_class, name_class_fits, width_in)
 
-pub ruleset asciis = (ascii_past, ascii_stop, ascii_go, run_past, run_ends, run_on, rules)
+pub ruleset rests = (rest_no_parts, rest_no_name, rest_parts, rest_parts_fits, rest_name, rest_name_fits)
 
-pub ruleset rests = (rest_none, rest_is, rest_fits, rules)
-
-pub ruleset firsts = (none_past, none_point, none_class, one_class, none_low, one_low, start_low, name_stop, name_go, point_fits, rules)
-
-pub ruleset fronts = (not_found, front_start, front_go, front_whole, rules)
-
-pub ruleset whole = (number_any, part_past, part_within, part_at, whole_none, whole_more, whole_all, rules)
+pub ruleset whole = (name_within, part_past, part_at, whole_none, whole_more, whole_all, rules)

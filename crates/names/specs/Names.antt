@@ -5,10 +5,10 @@ use Rattle.spec.specs.Reading.Wellformed.{parts, check_name}
 use Rattle.classes.specs.Classes.{dialect}
 use Rattle.classes.specs.declared.Names.{Names}
 
--- r is a place among the name characters from i on, whatever the edition, and their end where the byte at r is below 128
-pub record AsciiRun (s : List ℕ) (i r : ℕ) : Type 0 where
-  pub among : (names : Names) → r + taken (parts (dialect names) (drop r s)) ≡ i + taken (parts (dialect names) (drop i s))
-  pub ends : (names : Names) → get_or s r 0 < 128 → r ≡ i + taken (parts (dialect names) (drop i s))
+-- n is a place among the name characters at the front of w, whatever the edition, and their end where the byte at n is below 128
+pub record AsciiRun (w : List ℕ) (n : ℕ) : Type 0 where
+  pub among : (names : Names) → n + taken (parts (dialect names) (drop n w)) ≡ taken (parts (dialect names) w)
+  pub ends : (names : Names) → get_or w n 0 < 128 → n ≡ taken (parts (dialect names) w)
 
 -- w is a Name, whatever the edition
 pub record AnyName (w : List ℕ) : Type 0 where

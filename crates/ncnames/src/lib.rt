@@ -4,28 +4,18 @@
 ghost use Rattle.spec.specs.Grammar.AppendixB.{appendix_b};
 ghost use Rattle.spec.specs.Grammar.Names.{NCName};
 ghost use Rattle.spec.specs.Promises.{Tells};
+ghost use Rattle.error.specs.Read.{code, yes};
 
 use classes::Names;
-use error::ACCEPTED;
-use names::name_number;
+use error::Refusal;
+use names::name_admitted;
 use search::has_byte;
-use source::{Verdict, admit};
+use source::admit;
 
 // Namespaces [4] NCName
-pub fn is_ncname(text: &[u8]) -> Verdict
-    ensures { Tells (NCName appendix_b) text.now result.number result.yes }
+pub fn is_ncname(text: &[u8]) -> Result<bool, Refusal>
+    ensures { Tells (NCName appendix_b) text.now (code result) (yes result) }
 {
-    let n = admit(text);
-    if n != ACCEPTED {
-        return Verdict {
-            number: n,
-            yes: false,
-        };
-    }
-    let m = name_number(text, Names::AppendixB);
-    let colon = has_byte(text, b':');
-    Verdict {
-        number: n,
-        yes: (m == ACCEPTED) & !colon,
-    }
+    admit(text)?;
+    Ok(name_admitted(text, Names::AppendixB).is_ok() && !has_byte(text, b':'))
 }

@@ -23,14 +23,13 @@ use Rattle.spec.proofs.Base.Places.{drop_at, drop_end}
 use Rattle.spec.proofs.Base.Tests.{two_signs}
 use Rattle.search.specs.FirstPlace.{first_place}
 use Rattle.search.specs.Places.{found, place_from, either}
-use Rattle.search.specs.declared.places.Found.{Found}
-use Rattle.search.specs.declared.places.Found.TheVariants.{Here, Nowhere}
+use Rattle.std.specs.Prelude.{Option, Some, None, Result, Ok, Err}
 use Rattle.search.proofs.Finding.{was_nowhere, was_here, here_onward, here_fits}
 use Rattle.search.proofs.Outside.{sign_in, sign_less, sign_hit, outside_one, signs_found}
 use Rattle.search.proofs.Placing.{from_onward, from_nowhere, from_here}
 
 -- the first pass
-pub open_found : (s : List ℕ) (i : ℕ) (r : Found) → found r ≡ place_from (outside (either 91 91) 0) s i → found r ≡ place_from subset_open s i
+pub open_found : (s : List ℕ) (i : ℕ) (r : Option ℕ) → found r ≡ place_from (outside (either 91 91) 0) s i → found r ≡ place_from subset_open s i
 unfolding place_from
 open_found s i r a = a ∙ ap (later i) (outside_one 91 0 (drop i s))
 
@@ -89,23 +88,23 @@ end_lone w e = rw e
 
 -- The second pass at i. The invariant: what it finds from i on is what is found, W.
 module _ (s : List ℕ) (i : ℕ) (W : Place) (inv : place_from (subset_end 0 0) s i ≡ W) where
-  pub end_over : length s ≤ i → found Nowhere ≡ W
+  pub end_over : length s ≤ i → found None ≡ W
   unfolding found place_from subset_end
   end_over h = rw (drop_end s i h) at inv
 
   -- r is the next place that it looks at
-  module _ (r : Found) (a : found r ≡ place_from (outside (either 93 60) 0) s i) where
-    pub end_none : r ≡ Nowhere → found Nowhere ≡ W
+  module _ (r : Option ℕ) (a : found r ≡ place_from (outside (either 93 60) 0) s i) where
+    pub end_none : r ≡ None → found None ≡ W
     unfolding found place_from
     end_none e = rw (end_outside 0 (drop i s), from_nowhere (outside (either 93 60) 0) s i r a e) at inv
 
-    module _ (j : ℕ) (e : r ≡ Here j) where
+    module _ (j : ℕ) (e : r ≡ Some j) where
       here : place_from (subset_end 0 0) s j ≡ W
       here =
           let (n, f, g) = from_here (outside (either 93 60) 0) s i r a j e in
           ap (place_from (subset_end 0 0) s) g ∙ from_onward (subset_end 0 0) s i n (end_outside 0 (drop i s) ∙ ap (resumed (drop i s)) f) ∙ inv
 
-      pub end_here : get_or s j 0 ≡ 93 → found (Here j) ≡ W
+      pub end_here : get_or s j 0 ≡ 93 → found (Some j) ≡ W
       unfolding found place_from subset_end
       end_here f = (rw add-zero) ∙ (rw (drop_at s j (sign_in (either 93 60) s i r a j e), f) at here)
 
@@ -127,15 +126,15 @@ module _ (s : List ℕ) (i : ℕ) (W : Place) (inv : place_from (subset_end 0 0)
           inner v d = sym (drop-drop 4 j s) ∙ ap (drop 4) d
 
           -- q is where its end is found
-          module _ (q : Found) (d : found q ≡ first_place (ascii "-->") s (j + 4)) where
-            pub comment_open : q ≡ Nowhere → found Nowhere ≡ W
+          module _ (q : Option ℕ) (d : found q ≡ first_place (ascii "-->") s (j + 4)) where
+            pub comment_open : q ≡ None → found None ≡ W
             unfolding found place_from
             comment_open f =
                 let (v, g) = begun in
                 let n : contains (ascii "-->") v ≡ false = ap (contains (ascii "-->")) (sym (inner v g)) ∙ was_nowhere (ascii "-->") s (j + 4) q d f in
                 rw (g, end_stuck v n) at here
 
-            module _ (x : ℕ) (f : q ≡ Here x) where
+            module _ (x : ℕ) (f : q ≡ Some x) where
               pub comment_passed : place_from (subset_end 0 0) s (x + 3) ≡ W
               comment_passed =
                   let (v, g) = begun in

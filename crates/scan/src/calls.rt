@@ -1,44 +1,39 @@
 // The scan of a front part, and the two numbers in front of it.
 ghost use Rattle.std.specs.Prelude.{◌≡◌};
 ghost use Rattle.spec.specs.Reading.Scan as Rule;
-ghost use Rattle.scan.specs.Answers.{gives, scan_gives, Scans};
+ghost use Rattle.scan.specs.Answers.{gives, scan_of, Scans};
 
 use crate::subset::{internal_subset_end, subset_open};
-use search::Found;
+use error::Refusal;
 use source::admit;
 
-// What the scan says: no subset has opened, one has opened and not closed, it closed at the ']' of this place; or 1 or 2, where the
-// text may not be looked at.
-#[derive(Clone, Copy)]
+// What the scan says: no subset has opened, one has opened and not closed, or it closed at the ']' of this place.
+#[derive(Clone, Copy, Debug, PartialEq, Eq)]
 pub enum Scanned {
     NotOpened,
     NotClosed,
     Closed(usize),
-    Refused(u8),
 }
 
 // The scan of any bytes. The second pass begins after the byte where the first one stopped.
+#[tactic(auto, using(crate::proofs::Answering::answering))]
 pub fn scan_admitted(text: &[u8]) -> Scanned
-    ensures { scan_gives result ≡ gives (Rule.scan text.now) }
+    ensures { scan_of result ≡ Rule.scan text.now }
 {
-    let o = subset_open(text);
-    let Found::Here(i) = o else {
+    let Some(i) = subset_open(text) else {
         return Scanned::NotOpened;
     };
-    let e = internal_subset_end(text, i + 1);
-    let Found::Here(j) = e else {
-        return Scanned::NotClosed;
-    };
-    Scanned::Closed(j)
+    match internal_subset_end(text, i + 1) {
+        Some(j) => Scanned::Closed(j),
+        None => Scanned::NotClosed,
+    }
 }
 
 // 1 and 2 come before the scan, as in every public call.
-pub fn scan(text: &[u8]) -> Scanned
+#[tactic(auto, using(crate::proofs::Answering::answering))]
+pub fn scan(text: &[u8]) -> Result<Scanned, Refusal>
     ensures { Scans text.now result }
 {
-    let number = admit(text);
-    if number != error::ACCEPTED {
-        return Scanned::Refused(number);
-    }
-    scan_admitted(text)
+    admit(text)?;
+    Ok(scan_admitted(text))
 }

@@ -12,6 +12,8 @@ use mir.Val.{Fits}
 use lib.Dec.{eqb}
 use lib.ListN.{length, get_or, take, drop, length-drop}
 use lib.Seq.{drop-drop}
+use Rattle.std.specs.Prelude.{Option, Some, None}
+use Rattle.std.specs.Option.{is_some}
 use Rattle.spec.specs.Basics.{pick}
 use Rattle.spec.specs.Reading.Places.{Place, at, nowhere}
 use Rattle.spec.specs.Reading.Readers.{run, starts, contains, before}
@@ -20,8 +22,6 @@ use Rattle.spec.proofs.Base.Places.{drop_at, drop_end, take_rest}
 use Rattle.search.specs.Runs.{away, Skipped}
 use Rattle.search.specs.FirstPlace.{first_place, only}
 use Rattle.search.specs.Places.{found}
-use Rattle.search.specs.declared.places.Found.{Found}
-use Rattle.search.specs.declared.places.Found.TheVariants.{Here, Nowhere}
 
 -- a word stands only where something is left
 contains_some : (kw w : List ℕ) → contains kw w ≡ true → 0 < length w
@@ -91,7 +91,7 @@ first_within kw w t e f = let (k, l) = some_byte kw w (sym e ∙ f) in let z = a
 
 -- The loop of find. The invariant: the first place from i on is the first place W.
 module _ (kw s : List ℕ) (i : ℕ) (W : Place) (inv : first_place kw s i ≡ W) where
-  pub find_end : length s ≤ i → found Nowhere ≡ W
+  pub find_end : length s ≤ i → found None ≡ W
   unfolding found first_place contains
   find_end h = rw (drop_end s i h) at inv
 
@@ -100,7 +100,7 @@ module _ (kw s : List ℕ) (i : ℕ) (W : Place) (inv : first_place kw s i ≡ W
       front : (b : Bool) → t ≡ b → starts kw (get_or s i 0 ∷ drop (i + 1) s) ≡ b
       front b f = ap (starts kw) (sym (drop_at s i h)) ∙ sym e ∙ f
 
-      pub find_here : t ≡ true → found (Here i) ≡ W
+      pub find_here : t ≡ true → found (Some i) ≡ W
       unfolding found first_place contains before
       find_here f = (rw add-zero) ∙ (rw (drop_at s i h, front true f) at inv)
 
@@ -110,7 +110,7 @@ module _ (kw s : List ℕ) (i : ℕ) (W : Place) (inv : first_place kw s i ≡ W
 
 -- The loop of find_byte, where the word is one byte.
 module _ (q : ℕ) (s : List ℕ) (i : ℕ) (W : Place) (inv : first_place (q ∷ []) s i ≡ W) (h : i < length s) where
-  pub byte_here : get_or s i 0 ≡ q → found (Here i) ≡ W
+  pub byte_here : get_or s i 0 ≡ q → found (Some i) ≡ W
   byte_here e = find_here (q ∷ []) s i W inv h true (unfold starts in rw (drop_at s i h, eq-eqb (get_or s i 0) q e)) refl
 
   pub byte_not : (get_or s i 0 ≡ q → ⊥) → first_place (q ∷ []) s (i + 1) ≡ W
@@ -127,8 +127,8 @@ starts_first kw (b ∷ w) c = go (starts kw (b ∷ w)) refl c (starts_first kw w
     go false e c ih = ih c
 
 -- What find answered: r.
-module _ (kw s : List ℕ) (from : ℕ) (r : Found) (a : found r ≡ first_place kw s from) where
-  pub was_nowhere : r ≡ Nowhere → contains kw (drop from s) ≡ false
+module _ (kw s : List ℕ) (from : ℕ) (r : Option ℕ) (a : found r ≡ first_place kw s from) where
+  pub was_nowhere : r ≡ None → contains kw (drop from s) ≡ false
   unfolding found first_place
   was_nowhere b = go (contains kw (drop from s)) (ap found (sym b) ∙ a)
     where
@@ -136,7 +136,7 @@ module _ (kw s : List ℕ) (from : ℕ) (r : Found) (a : found r ≡ first_place
       go true e = let z : ◌≡◌ {A = ℕ} 0 1 = cc in absurd (omega arith)
       go false e = refl
 
-  module _ (j : ℕ) (b : r ≡ Here j) where
+  module _ (j : ℕ) (b : r ≡ Some j) where
     pub was_here : (contains kw (drop from s) ≡ true) × (j ≡ from + before kw (drop from s))
     unfolding found first_place
     was_here = go (contains kw (drop from s)) (ap found (sym b) ∙ a)
@@ -159,58 +159,59 @@ module _ (kw s : List ℕ) (from : ℕ) (r : Found) (a : found r ≡ first_place
     here_fits n l h = omega (arith, lies)
 
 -- What find_byte answered of the rest of a text: r.
-module _ (kw s : List ℕ) (from : ℕ) (r : Found) (a : found r ≡ first_place kw (take (length s - from) (drop from s)) 0) where
+module _ (kw s : List ℕ) (from : ℕ) (r : Option ℕ) (a : found r ≡ first_place kw (take (length s - from) (drop from s)) 0) where
   in_rest : found r ≡ pick (contains kw (drop from s)) (at (0 + before kw (drop from s))) nowhere
   unfolding first_place
   in_rest = a ∙ (rw take_rest)
 
-  pub rest_nowhere : r ≡ Nowhere → found Nowhere ≡ first_place kw s from
+  pub rest_nowhere : r ≡ None → found None ≡ first_place kw s from
   unfolding found first_place
   rest_nowhere b = rw (was_nowhere kw (drop from s) 0 r (unfold first_place in in_rest) b)
 
-  pub rest_here : (j : ℕ) → r ≡ Here j → found (Here (from + j)) ≡ first_place kw s from
+  pub rest_here : (j : ℕ) → r ≡ Some j → found (Some (from + j)) ≡ first_place kw s from
   unfolding found first_place
   rest_here j b = let (c, e) = was_here kw (drop from s) 0 r (unfold first_place in in_rest) j b in ap at (let z : from + j ≡ from + before kw (drop from s) = omega arith in z) ∙ (rw c)
 
-  pub rest_fits : (j : ℕ) → r ≡ Here j → length s < 2 ^ 64 → from < length s → Fits w64 (from + j)
+  pub rest_fits : (j : ℕ) → r ≡ Some j → length s < 2 ^ 64 → from ≤ length s → Fits w64 (from + j)
   rest_fits j b h k = omega (arith, here_within kw (drop from s) 0 r (unfold first_place in in_rest) j b, length-drop from s)
 
-pub rest_past : (a : ℕ) (kw s : List ℕ) (from : ℕ) → length s ≤ from → found Nowhere ≡ first_place (a ∷ kw) s from
+pub rest_past : (a : ℕ) (kw s : List ℕ) (from : ℕ) → length s ≤ from → found None ≡ first_place (a ∷ kw) s from
 unfolding found first_place contains
 rest_past a kw s from h = rw (drop_end s from h)
 
 -- The word does not stand at i, as t says, and r is where its first byte stands next.
-module _ (kw s : List ℕ) (i : ℕ) (W : Place) (inv : first_place kw s i ≡ W) (h : i < length s) (t : Bool) (e : t ≡ starts kw (drop i s)) (f : t ≡ false) (a : ℕ) (g : a ≡ get_or kw 0 0) (r : Found) (b : found r ≡ first_place (a ∷ []) s (i + 1)) where
+module _ (kw s : List ℕ) (i : ℕ) (W : Place) (inv : first_place kw s i ≡ W) (h : i < length s) (t : Bool) (e : t ≡ starts kw (drop i s)) (f : t ≡ false) (a : ℕ) (g : a ≡ get_or kw 0 0) (r : Option ℕ) (b : found r ≡ first_place (a ∷ []) s (i + 1)) where
   on : first_place kw s (i + 1) ≡ W
   on = find_not kw s i W inv h t e f
 
   spelled : (k : List ℕ) × (kw ≡ a ∷ k)
   spelled = let (k, l) = some_byte kw (drop i s) (sym e ∙ f) in (k, l ∙ ap (λ (x : ℕ). x ∷ k) (sym g))
 
-  pub find_none : r ≡ Nowhere → found Nowhere ≡ W
+  pub find_none : r ≡ None → found None ≡ W
   unfolding found first_place
   find_none d = let (k, l) = spelled in rw (l, byte_nowhere a k (drop (i + 1) s) (was_nowhere (a ∷ []) s (i + 1) r b d)) at on
 
-  pub find_next : (j : ℕ) → r ≡ Here j → first_place kw s j ≡ W
+  pub find_next : (j : ℕ) → r ≡ Some j → first_place kw s j ≡ W
   find_next j d =
       let (k, l) = spelled in
       let (c, m) = was_here (a ∷ []) s (i + 1) r b j d in
       ap (λ (x : List ℕ). first_place x s j) l ∙ ap (first_place (a ∷ k) s) (m ∙ ap (λ (x : ℕ). i + 1 + x) (byte_first a (drop (i + 1) s)))
       ∙ sym (first_far a k s (i + 1)) ∙ ap (λ (x : List ℕ). first_place x s (i + 1)) (sym l) ∙ on
 
-pub next_less : (a : ℕ) (s : List ℕ) (i j : ℕ) (r : Found) → i < length s → found r ≡ first_place (a ∷ []) s (i + 1) → r ≡ Here j → length s - j < length s - i
+pub next_less : (a : ℕ) (s : List ℕ) (i j : ℕ) (r : Option ℕ) → i < length s → found r ≡ first_place (a ∷ []) s (i + 1) → r ≡ Some j → length s - j < length s - i
 next_less a s i j r h b d = omega (arith, here_onward (a ∷ []) s (i + 1) r b j d)
 
 -- whether a word stands anywhere
-module _ (kw w : List ℕ) (r : Found) (a : found r ≡ first_place kw w 0) where
-  pub has_yes : (j : ℕ) → r ≡ Here j → true ≡ contains kw w
-  has_yes j b = sym (was_here kw w 0 r a j b).0
-
-  pub has_no : r ≡ Nowhere → false ≡ contains kw w
-  has_no b = sym (was_nowhere kw w 0 r a b)
+module _ (kw w : List ℕ) (r : Option ℕ) (a : found r ≡ first_place kw w 0) where
+  pub has : (b : Bool) → b ≡ is_some r → b ≡ contains kw w
+  has b e = e ∙ go r refl
+    where
+      go : (o : Option ℕ) → r ≡ o → is_some o ≡ contains kw w
+      go (Some j) f = sym (was_here kw w 0 r a j f).0
+      go None f = sym (was_nowhere kw w 0 r a f)
 
 -- what find and has search, and what code that finds a word searches of its place
-pub ruleset finding = (first_within, find_end, find_here, find_not, find_none, find_next, next_less, byte_far, byte_here, byte_not, has_yes, has_no, rules)
+pub ruleset finding = (first_within, find_end, find_here, find_not, find_none, find_next, next_less, byte_far, byte_here, byte_not, rules)
 
 pub ruleset places_found = (here_onward, here_within, here_fits)
 

@@ -11,6 +11,7 @@ use mir.Val.{Fits}
 use lib.Dec.{eqb}
 use lib.ListN.{length, get_or, drop, length-drop}
 use lib.Seq.{get_or-drop}
+use Rattle.std.specs.Prelude.{Option, Some, None}
 use Rattle.spec.specs.Basics.{pick}
 use Rattle.spec.specs.Grammar.Languages.{among, one_of}
 use Rattle.spec.specs.Reading.Places.{Place, at, nowhere, later, outside}
@@ -21,8 +22,6 @@ use Rattle.spec.proofs.Base.Tests.{or_false_left, or_false_right}
 use Rattle.search.specs.FirstPlace.{first_place}
 use Rattle.search.specs.Places.{found, place_from, either, stop}
 use Rattle.search.specs.Runs.{away}
-use Rattle.search.specs.declared.places.Found.{Found}
-use Rattle.search.specs.declared.places.Found.TheVariants.{Here, Nowhere}
 use Rattle.search.proofs.Finding.{was_nowhere, was_here, here_onward, here_fits}
 use Rattle.search.proofs.Placing.{from_far, from_onward, from_here}
 use Rattle.search.proofs.Stopping.{stopped}
@@ -57,7 +56,7 @@ quoted p (suc q) (b ∷ w) n = go (eqb b (suc q)) (contains (suc q ∷ []) w) (q
 
 -- The loop of outside_quotes. The invariant: what is found from i on is what is found, W.
 module _ (sign other : ℕ) (s : List ℕ) (i : ℕ) (W : Place) (inv : place_from (outside (either sign other) 0) s i ≡ W) where
-  pub outside_over : length s ≤ i → found Nowhere ≡ W
+  pub outside_over : length s ≤ i → found None ≡ W
   unfolding found place_from outside
   outside_over h = rw (drop_end s i h) at inv
 
@@ -72,17 +71,17 @@ module _ (sign other : ℕ) (s : List ℕ) (i : ℕ) (W : Place) (inv : place_fr
     to_stop : place_from (outside (either sign other) 0) s r ≡ W
     to_stop = ap (place_from (outside (either sign other) 0) s) a ∙ from_onward (outside (either sign other) 0) s i (away (stop sign other) (drop i s)) (passed (outside (either sign other) 0) (stop sign other) plain (drop i s)) ∙ inv
 
-    pub outside_none : length s ≤ r → found Nowhere ≡ W
+    pub outside_none : length s ≤ r → found None ≡ W
     unfolding found place_from outside
     outside_none h = rw (drop_end s r h) at to_stop
 
     module _ (h : r < length s) where
-      pub outside_here : eqb (get_or s r 0) sign || eqb (get_or s r 0) other ≡ true → found (Here r) ≡ W
+      pub outside_here : eqb (get_or s r 0) sign || eqb (get_or s r 0) other ≡ true → found (Some r) ≡ W
       unfolding found place_from outside
       outside_here e = (rw add-zero) ∙ (rw (drop_at s r h, or-false, e) at to_stop)
 
       -- neither sign is there: a quote mark, which is looked for again
-      module _ (n : eqb (get_or s r 0) sign || eqb (get_or s r 0) other ≡ false) (q : Found) (b : found q ≡ first_place (get_or s r 0 ∷ []) s (r + 1)) where
+      module _ (n : eqb (get_or s r 0) sign || eqb (get_or s r 0) other ≡ false) (q : Option ℕ) (b : found q ≡ first_place (get_or s r 0 ∷ []) s (r + 1)) where
         mark : one_of "\"'" (get_or s r 0) ≡ true
         mark = unfold stop in rw (or-false, n) at (stopped (stop sign other) s i r a h)
 
@@ -93,11 +92,11 @@ module _ (sign other : ℕ) (s : List ℕ) (i : ℕ) (W : Place) (inv : place_fr
             ∙ sym (later_later r 1 (outside (either sign other) (get_or s r 0) (drop (r + 1) s)))
             ∙ (rw (drop_at s r h, or-false, n, mark) at to_stop)
 
-        pub outside_open : q ≡ Nowhere → found Nowhere ≡ W
+        pub outside_open : q ≡ None → found None ≡ W
         unfolding found
         outside_open e = rw (was_nowhere (get_or s r 0 ∷ []) s (r + 1) q b e) at in_quotes
 
-        pub outside_quoted : (j : ℕ) → q ≡ Here j → place_from (outside (either sign other) 0) s (j + 1) ≡ W
+        pub outside_quoted : (j : ℕ) → q ≡ Some j → place_from (outside (either sign other) 0) s (j + 1) ≡ W
         outside_quoted j e =
             let (c, f) = was_here (get_or s r 0 ∷ []) s (r + 1) q b j e in
             let k : ℕ = suc (before (get_or s r 0 ∷ []) (drop (r + 1) s)) in
@@ -105,11 +104,11 @@ module _ (sign other : ℕ) (s : List ℕ) (i : ℕ) (W : Place) (inv : place_fr
             ap (place_from (outside (either sign other) 0) s) z ∙ from_far (outside (either sign other) 0) s (r + 1) k ∙ (rw c at in_quotes)
 
 -- a quoted part ends further on
-pub quoted_less : (p : ℕ → Bool) (kw s : List ℕ) (i r : ℕ) (q : Found) (j : ℕ) → i < length s → r ≡ i + away p (drop i s) → found q ≡ first_place kw s (r + 1) → q ≡ Here j → length s - (j + 1) < length s - i
+pub quoted_less : (p : ℕ → Bool) (kw s : List ℕ) (i r : ℕ) (q : Option ℕ) (j : ℕ) → i < length s → r ≡ i + away p (drop i s) → found q ≡ first_place kw s (r + 1) → q ≡ Some j → length s - (j + 1) < length s - i
 quoted_less p kw s i r q j h a b f = omega (arith, here_onward kw s (r + 1) q b j f)
 
 -- the byte that outside_quotes found is one of the text, and of the class
-module _ (p : ℕ → Bool) (s : List ℕ) (i : ℕ) (r : Found) (a : found r ≡ place_from (outside p 0) s i) (j : ℕ) (e : r ≡ Here j) where
+module _ (p : ℕ → Bool) (s : List ℕ) (i : ℕ) (r : Option ℕ) (a : found r ≡ place_from (outside p 0) s i) (j : ℕ) (e : r ≡ Some j) where
   pub sign_in : j < length s
   sign_in = let (n, f, g) = from_here (outside p 0) s i r a j e in omega (arith, outside_within p 0 (drop i s) n f, length-drop i s)
 

@@ -2,7 +2,7 @@
 use mathlib.Core.Path.{◌≡◌, refl, sym, ap, ◌∙◌}
 use mathlib.Core.Bool.{Bool, true, false, ◌||◌, not, true≢false}
 use mathlib.Core.List.{List, [], ◌∷◌}
-use Prim.Native.Nat.{ℕ, zero, suc, ◌+◌, ◌-◌, ◌^◌, ◌<◌, ◌≤◌}
+use Prim.Native.Nat.{ℕ, zero, suc, ◌+◌, ◌-◌, ◌^◌, ◌<◌, ◌≤◌, max}
 use native.Mathlib.Omega.{arith}
 use borrow.Author.Rules.{rules}
 use mir.Syntax.{w64}
@@ -27,6 +27,10 @@ module _ (p : ℕ → Bool) (s : List ℕ) (at i : ℕ) (inv : i + run p (drop i
   pub run_go : i < length s → p (get_or s i 0) ≡ true → i + 1 + run p (drop (i + 1) s) ≡ at + run p (drop at s)
   unfolding run
   run_go h e = let z = rw (drop_at s i h, e) at inv in omega arith
+
+  -- a loop that began at `at` found no other byte
+  pub run_over : (r : ℕ) → at ≤ i → (at ≤ length s → i ≤ length s) → length s ≤ i → r ≡ max at (length s) → r ≡ at + run p (drop at s)
+  run_over r g k h e = let z = run_end h in omega (arith, run_within p (drop at s), length-drop at s)
 
 -- a byte outside the class q
 module _ (q : ℕ → Bool) (s : List ℕ) (at i : ℕ) (t : Bool) (h : i < length s) (e : t ≡ q (get_or s i 0)) where
@@ -60,15 +64,11 @@ away_split q (suc n) (b ∷ w) h = go (q b) h (away_split q n w)
     go true k ih = absurd (omega arith)
     go false k ih = omega (arith, ih (omega arith))
 
-away_within : (q : ℕ → Bool) (w : List ℕ) → away q w ≤ length w
+pub away_within : (q : ℕ → Bool) (w : List ℕ) → away q w ≤ length w
 unfolding away
 away_within q w = run_within (λ b. not (q b)) w
 
--- a pass found no byte of the class, or there is no room for a block
-pub block_found : (q : ℕ → Bool) (s : List ℕ) (at i end n : ℕ) (found : Bool) → (found ≡ false → i + away q (drop i s) ≡ at + away q (drop at s)) → end ≤ i → end ≡ at + n → Block q s at n (not found)
-block_found q s at i end n true inv h e = record { lies = λ f. absurd (true≢false (sym f)) }
-block_found q s at i end n false inv h e = let z = inv refl in record { lies = λ f. omega arith }
-
+-- there is no room for a block
 pub block_none : (q : ℕ → Bool) (s : List ℕ) (at n : ℕ) → Block q s at n false
 block_none q s at n = record { lies = λ f. absurd (true≢false (sym f)) }
 
@@ -86,9 +86,7 @@ module _ (q : ℕ → Bool) (s : List ℕ) (i n : ℕ) (t : Bool) (a : Block q s
       ends : i + n + away q (drop (i + n) s) ≡ i + away q (drop i s)
       ends = let z = away_split q n (drop i s) (a.lies y) in rw (← drop-drop) (omega arith)
 
--- what a pass searches, a loop over passes, and a loop over blocks
+-- what a pass searches, and a loop over blocks
 pub ruleset passing = (pass_go, skipped_none, skipped_pass, rules)
 
-pub ruleset skipping = (skipped_none, skipped_more, rules)
-
-pub ruleset blocks = (pass_go, block_found, block_none, skipped_none, block_fits, block_less, block_passed, rules)
+pub ruleset blocks = (skipped_none, block_fits, block_less, block_passed, rules)

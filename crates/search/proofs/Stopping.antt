@@ -1,19 +1,20 @@
--- Laws of the way to the next quote mark or sign: block by block, then byte by byte. Assumes nothing.
+-- Laws of the way to the next byte of a class: block by block, then byte by byte. Assumes nothing.
 use mathlib.Core.Path.{◌≡◌, refl, sym, ap, ◌∙◌}
 use mathlib.Core.Bool.{Bool, true, false, ◌&&◌, ◌||◌, not, or-false, or_assoc}
 use mathlib.Core.List.{List, [], ◌∷◌}
 use Prim.Native.Nat.{ℕ, zero, suc, ◌+◌, ◌<◌, ◌≤◌}
 use native.Mathlib.Omega.{arith}
 use lib.Dec.{eqb}
-use lib.ListN.{length, get_or, drop, length-drop}
-use lib.Seq.{get_or-drop}
+use lib.ListN.{length, get_or, take, drop, length-drop}
+use lib.Seq.{get_or-drop, length-take-le}
+use borrow.Author.Tests.{not-true}
+use Rattle.std.specs.List.{fold}
 use Rattle.spec.specs.Basics.{pick}
 use Rattle.spec.specs.Reading.Readers.{run}
-use Rattle.spec.proofs.Base.Tests.{and_left, and_right}
+use Rattle.spec.proofs.Base.Tests.{and_left, and_right, or_false_left, or_false_right}
 use Rattle.search.specs.FirstPlace.{only}
 use Rattle.search.specs.Places.{stop}
 use Rattle.search.specs.Runs.{away, Skipped, Block}
-use Rattle.search.proofs.Runs.{run_end, run_stop, away_go, blocks}
 
 -- the class as the code tests it
 pub stop_is : (sign other b : ℕ) → eqb b 34 || eqb b 39 || eqb b sign || eqb b other ≡ stop sign other b
@@ -55,19 +56,37 @@ plain_block sign other s i n a b c d f g h k = record {
       (away_or (only sign) _ n w (h.lies (and_right (a && b) c x)) (away_or (only other) (λ _. false) n w l (away_all (only other) n w l))));
 }
 
--- the loop of plain_end: the bytes outside the class from i on end where those from `at` on do
-module _ (p : ℕ → Bool) (s : List ℕ) (at i : ℕ) (inv : Skipped p s at i) where
-  pub away_end : length s ≤ i → i ≡ at + away p (drop at s)
-  unfolding away
-  away_end h = run_end (λ b. not (p b)) s at i inv.ends h
+-- the end of a run outside the class is where the class is met
+pub away_run : (p : ℕ → Bool) (s : List ℕ) (at i r : ℕ) → Skipped p s at i → r ≡ i + run (λ b. not (p b)) (drop i s) → r ≡ at + away p (drop at s)
+unfolding away
+away_run p s at i r k e = e ∙ (unfold away in k.ends)
 
-  module _ (t : Bool) (h : i < length s) (e : t ≡ p (get_or s i 0)) where
-    pub away_stop : t ≡ true → i ≡ at + away p (drop at s)
-    unfolding away
-    away_stop f = run_stop (λ b. not (p b)) s at i inv.ends h (ap not (sym e ∙ f))
+-- a pass over a block found none of the class
+passed_over : (q : ℕ → Bool) (w : List ℕ) (t : Bool) → fold (λ (found : Bool) (b : ℕ). found || q b) t w ≡ false → (t ≡ false) × (length w ≤ away q w)
+unfolding away run
+passed_over q [] t e = (e, omega arith)
+passed_over q (b ∷ w) t e =
+    let (f, n) = passed_over q w (t || q b) e in
+    (or_false_left t (q b) f, rw (or_false_right t (q b) f) (omega arith))
 
-    pub away_on : t ≡ false → Skipped p s at (i + 1)
-    away_on f = record { onward = omega (arith, inv.onward); ends = away_go p s at i t h e inv.ends f }
+-- a block is the front of what is left
+in_front : (q : ℕ → Bool) (n : ℕ) (w : List ℕ) → n ≤ away q (take n w) → n ≤ away q w
+unfolding away run
+in_front q zero w h = omega arith
+in_front q (suc n) [] h = h
+in_front q (suc n) (b ∷ w) h = go (q b) h (in_front q n w)
+  where
+    go : (t : Bool) → suc n ≤ pick (not t) (suc (run (λ c. not (q c)) (take n w))) 0 → (n ≤ run (λ c. not (q c)) (take n w) → n ≤ run (λ c. not (q c)) w) → suc n ≤ pick (not t) (suc (run (λ c. not (q c)) w)) 0
+    go true h ih = h
+    go false h ih = omega (arith, ih (omega arith))
+
+pub block_lacking : (b : ℕ) (s : List ℕ) (at k n : ℕ) (r : Bool) → k ≡ n → at + n ≤ length s → r ≡ fold (λ (found : Bool) (x : ℕ). found || eqb x b) false (take k (drop at s)) → Block (only b) s at n (not r)
+block_lacking b s at k n r e h f = record {
+  lies = λ g.
+      let l : length (take k (drop at s)) ≡ k = length-take-le k (drop at s) (omega (arith, length-drop at s)) in
+      let m = (passed_over (only b) (take k (drop at s)) false (sym f ∙ not-true r g)).1 in
+      in_front (only b) n (drop at s) (rw (← e) (omega (arith, l, m)));
+}
 
 -- what stands there is of the class
 hit : (p : ℕ → Bool) (w : List ℕ) → away p w < length w → p (get_or w (away p w) 0) ≡ true
@@ -85,5 +104,5 @@ hit p (b ∷ w) h = go (p b) refl h (hit p w)
 pub stopped : (p : ℕ → Bool) (s : List ℕ) (i r : ℕ) → r ≡ i + away p (drop i s) → r < length s → p (get_or s r 0) ≡ true
 stopped p s i r a h = ap (λ (k : ℕ). p (get_or s k 0)) a ∙ ap p (sym (get_or-drop i s (away p (drop i s)) 0)) ∙ hit p (drop i s) (omega (arith, length-drop i s))
 
--- what the way to the next of them searches
-pub ruleset stops = (stop_is, plain_block, away_end, away_stop, away_on, blocks)
+-- what a class of marks searches
+pub ruleset marks = (stop_is, plain_block)

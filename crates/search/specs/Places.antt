@@ -1,13 +1,11 @@
 -- The code's answer in the rule's words, the place that a rule finds, and what stops the search for signs outside quotes. Assumes nothing.
-use Rattle.std.specs.Prelude.{Bool, List, [], ◌∷◌, ℕ, drop}
+use Rattle.std.specs.Prelude.{Bool, List, [], ◌∷◌, ℕ, drop, Option, Some, None}
 use Rattle.spec.specs.Grammar.Languages.{among}
 use Rattle.spec.specs.Reading.Places.{Place, at, nowhere, later}
-use Rattle.search.specs.declared.places.Found.{Found}
-use Rattle.search.specs.declared.places.Found.TheVariants.{Here, Nowhere}
 
-unfoldable pub found : Found → Place
-found (Here i) = at i
-found Nowhere = nowhere
+unfoldable pub found : Option ℕ → Place
+found (Some i) = at i
+found None = nowhere
 
 -- what a rule finds in s from a place on, counted from the text's first byte
 unfoldable pub place_from : (List ℕ → Place) → List ℕ → ℕ → Place

@@ -1,15 +1,13 @@
-// The first place of a byte. Other bytes are passed a block at a time: most of a comment, and of a long literal.
+// The first place of a byte.
 ghost use Rattle.std.specs.Prelude.{◌≡◌, [], ◌∷◌};
-ghost use Rattle.search.specs.Runs.{Skipped, Block};
+ghost use Rattle.search.specs.Runs.{Block};
 ghost use Rattle.search.specs.FirstPlace.{first_place, only};
 ghost use Rattle.search.specs.Places.{found};
 
-use crate::places::Found;
+use crate::blocks::{BLOCK, Blocks, past_blocks};
 
-// Few enough bytes that a literal has some blocks without its quote mark, and enough for vector code.
-pub const BLOCK: usize = 16;
-
-// Whether a block begins at `at` that lacks b. No test ends the loop, so that it becomes vector code.
+// Whether a block begins at `at` that lacks b. No early exit, so that it becomes vector code.
+#[tactic(auto, using(crate::proofs::Runs::block_none))]
 pub fn block_lacks(s: &[u8], at: usize, b: u8) -> bool
     ensures { Block (only b) s.now at 16 result }
 {
@@ -19,52 +17,43 @@ pub fn block_lacks(s: &[u8], at: usize, b: u8) -> bool
     if s.len() - BLOCK < at {
         return false;
     }
-    let end = at + BLOCK;
-    let mut found = false;
-    let mut i = at;
-    while i < end {
-        found = found | (s[i] == b);
-        i += 1;
-    }
-    !found
+    !s[at..at + BLOCK]
+        .iter()
+        .fold(false, |found, &x| found | (x == b))
 }
 
-// The place after all such blocks from `at` on.
-fn past_blocks(s: &[u8], at: usize, b: u8) -> usize
-    ensures { Skipped (only b) s.now at result }
-{
-    let mut i = at;
-    while block_lacks(s, i, b) {
-        i += BLOCK;
+// One byte that is looked for.
+#[derive(Clone, Copy)]
+struct Byte(u8);
+
+impl Blocks for Byte {
+    ghost class = { λ s. only s.0 };
+
+    fn lacks(&self, s: &[u8], at: usize) -> bool {
+        block_lacks(s, at, self.0)
     }
-    i
 }
 
-// The first place of b from `at` on: in the first block that has it, or in what is left after the last block.
-pub fn find_byte(s: &[u8], at: usize, b: u8) -> Found
+// The first place of b from `at` on: in the first block that has it, or in what is left after the last block. By past_run and a look
+// whether it came to the end, `find` takes 5 percent more instructions.
+#[tactic(auto, using(crate::proofs::Finding::finding))]
+pub fn find_byte(s: &[u8], at: usize, b: u8) -> Option<usize>
     ensures { found result ≡ first_place (b ∷ []) s.now at }
 {
-    let mut i = past_blocks(s, at, b);
-    while i < s.len() {
+    for i in past_blocks(s, at, &Byte(b))..s.len() {
         if s[i] == b {
-            return Found::Here(i);
+            return Some(i);
         }
-        i += 1;
     }
-    Found::Nowhere
+    None
 }
 
 // The same, with the rest handed over as a part: whoever hands on its own text first copies its place and length, which the processor
 // waits for.
-pub fn find_in_rest(s: &[u8], at: usize, b: u8) -> Found
+#[tactic(auto, using(crate::proofs::Finding::rests))]
+pub fn find_in_rest(s: &[u8], at: usize, b: u8) -> Option<usize>
     ensures { found result ≡ first_place (b ∷ []) s.now at }
 {
-    if s.len() <= at {
-        return Found::Nowhere;
-    }
-    let r = find_byte(&s[at..], 0, b);
-    let Found::Here(j) = r else {
-        return Found::Nowhere;
-    };
-    Found::Here(at + j)
+    let j = find_byte(s.get(at..)?, 0, b)?;
+    Some(at + j)
 }

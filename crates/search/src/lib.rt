@@ -2,12 +2,15 @@
 // reader goes by these.
 #![tactic(auto)]
 
+mod blocks;
 mod bytes;
 mod keywords;
 mod places;
 mod quotes;
+mod spans;
 
 pub use bytes::find_byte;
 pub use keywords::at_keyword;
-pub use places::{Found, find, has_byte};
+pub use places::{find, has_byte};
 pub use quotes::outside_quotes;
+pub use spans::past_run;

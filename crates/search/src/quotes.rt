@@ -1,74 +1,67 @@
 // The first of two signs outside quotes: what dtd.rs's take_decl_body and checks.rs's quick scan look for.
 ghost use Rattle.std.specs.Prelude.{◌≡◌, ◌+◌, drop};
 ghost use Rattle.spec.specs.Reading.Places.{outside};
-ghost use Rattle.search.specs.Runs.{away, Skipped, Block};
+ghost use Rattle.search.specs.Runs.{away};
 ghost use Rattle.search.specs.Places.{found, place_from, either, stop};
 
-use crate::bytes::{BLOCK, block_lacks, find_in_rest};
-use crate::places::Found;
+use crate::blocks::{Blocks, past_blocks};
+use crate::bytes::{block_lacks, find_in_rest};
+use crate::spans::past_run;
 
-// A quote mark, or one of the two signs.
-fn is_stop(b: u8, sign: u8, other: u8) -> bool
-    ensures { result ≡ stop sign other b }
-{
-    (b == b'"') | (b == b'\'') | (b == sign) | (b == other)
+// A quote mark, or one of two signs.
+#[derive(Clone, Copy)]
+struct Marks {
+    sign: u8,
+    other: u8,
 }
 
-// Whether a block begins at `at` that has none of them. Each of the four tests is vector code, and `&` lets them share their bytes.
-fn is_plain(s: &[u8], at: usize, sign: u8, other: u8) -> bool
-    ensures { Block (stop sign other) s.now at 16 result }
-{
-    block_lacks(s, at, b'"')
-        & block_lacks(s, at, b'\'')
-        & block_lacks(s, at, sign)
-        & block_lacks(s, at, other)
-}
-
-// The place after all such blocks from `at` on.
-fn past_plain(s: &[u8], at: usize, sign: u8, other: u8) -> usize
-    ensures { Skipped (stop sign other) s.now at result }
-{
-    let mut i = at;
-    while is_plain(s, i, sign, other) {
-        i += BLOCK;
+impl Marks {
+    #[tactic(auto, using(crate::proofs::Stopping::marks))]
+    fn has(self, b: u8) -> bool
+        ensures { result ≡ stop self.sign self.other b }
+    {
+        (b == b'"') | (b == b'\'') | (b == self.sign) | (b == self.other)
     }
-    i
+
+    // The place of the first of them from `at` on, or the text's end.
+    fn first(self, s: &[u8], at: usize) -> usize
+        ensures { result ≡ at + away (stop self.sign self.other) (drop at s.now) }
+    {
+        past_run(s, past_blocks(s, at, &self), |b: u8| !self.has(b))
+    }
 }
 
-// The place of the first of them from `at` on, or the text's end.
-fn plain_end(s: &[u8], at: usize, sign: u8, other: u8) -> usize
-    ensures { result ≡ at + away (stop sign other) (drop at s.now) }
-{
-    let mut i = past_plain(s, at, sign, other);
-    while i < s.len() {
-        if is_stop(s[i], sign, other) {
-            return i;
-        }
-        i += 1;
+impl Blocks for Marks {
+    ghost class = { λ m. stop m.sign m.other };
+
+    // Each of the four tests is vector code, and `&` lets them share their bytes. One fold over `has` takes a fifth more instructions.
+    #[tactic(auto, using(crate::proofs::Stopping::marks))]
+    fn lacks(&self, s: &[u8], at: usize) -> bool {
+        block_lacks(s, at, b'"')
+            & block_lacks(s, at, b'\'')
+            & block_lacks(s, at, self.sign)
+            & block_lacks(s, at, self.other)
     }
-    i
 }
 
 // The first of the two signs from `at` on, outside quotes: a quoted part goes to the next mark of its kind, and one without end
 // leaves nothing to find.
-pub fn outside_quotes(s: &[u8], at: usize, sign: u8, other: u8) -> Found
+#[tactic(auto, using(crate::proofs::Outside::outsides))]
+pub fn outside_quotes(s: &[u8], at: usize, sign: u8, other: u8) -> Option<usize>
     ensures { found result ≡ place_from (outside (either sign other) 0) s.now at }
 {
+    let marks = Marks { sign, other };
     let mut i = at;
     while i < s.len() {
-        let here = plain_end(s, i, sign, other);
+        let here = marks.first(s, i);
         if s.len() <= here {
-            return Found::Nowhere;
+            return None;
         }
         let b = s[here];
         if (b == sign) | (b == other) {
-            return Found::Here(here);
+            return Some(here);
         }
-        let q = find_in_rest(s, here + 1, b);
-        let Found::Here(close) = q else {
-            return Found::Nowhere;
-        };
-        i = close + 1;
+        i = find_in_rest(s, here + 1, b)? + 1;
     }
-    Found::Nowhere
+    None
 }

@@ -1,5 +1,5 @@
 -- Laws of what stands in front of a public call: the two numbers in their order, and the answer of is_utf8. Assumes nothing.
-use mathlib.Core.Path.{◌≡◌, refl, sym, ap}
+use mathlib.Core.Path.{◌≡◌, refl, sym, ap, ◌∙◌}
 use mathlib.Core.Logic.{◌⊎◌, inl, inr}
 use mathlib.Core.Bool.{Bool, true, false, true≢false}
 use mathlib.Core.List.{List}
@@ -9,6 +9,14 @@ use borrow.Author.Rules.{rules}
 use borrow.Author.Tests.{eqb-true, eqb-false}
 use lib.Dec.{eqb}
 use lib.ListN.{length}
+use Rattle.std.specs.Prelude.{Ok, Err, IsErrAnd}
+use Rattle.std.specs.Result.{result_from_control_flow}
+use Rattle.std.proofs.Common.{Break, Continue}
+use Rattle.std.proofs.lemmas.Result.{err_from_is_err_and}
+use Rattle.error.specs.Read.{Verdict, Answer, code, said, reason, answer_number, read}
+use Rattle.error.specs.declared.refusal.Refusal.{Refusal}
+use Rattle.error.proofs.Laws.{answered}
+use Rattle.spec.proofs.Base.Results.{number_pos}
 use Rattle.spec.specs.Basics.{pick, limit}
 use Rattle.spec.specs.Grammar.Languages.{Lang}
 use Rattle.spec.specs.Grammar.Characters.{Text}
@@ -64,16 +72,31 @@ told_text w n e = go (eqb n 0) refl
     go true f = told all w n true e (eqb-true n 0 f) refl
     go false f = told_no all w n e (eqb-false n 0 f)
 
--- a public check after admit: n is the number in front, and m the rule's own
-module _ (rule : Reader) (L : Lang) (w : List ℕ) (n : ℕ) where
-  pub call_refused : Agrees rule L → n ≡ checked nothing w → (n ≡ 0 → ⊥) → Checks rule L w n
-  call_refused a e z = promise a w n (not_admitted rule w n e z)
+-- a public check after admit: r is what stands in front, and q what is answered in the end
+module _ (rule : Reader) (L : Lang) (w : List ℕ) (r : Verdict) (e : code r ≡ checked nothing w) where
+  pub call_refused : (x : Refusal) → Agrees rule L → r ≡ Err x → Checks rule L w (code {A = Unit {0}} (Err x))
+  call_refused x a f = promise a w _ (not_admitted rule w _ (sym (ap code f) ∙ e) (λ z. let y = number_pos (reason x) in omega arith))
 
-  pub call_answered : (m : ℕ) → Agrees rule L → n ≡ checked nothing w → n ≡ 0 → m ≡ number_of (rule w) → Checks rule L w m
-  call_answered m a e z f = promise a w m (admitted rule w n e m z f)
+  pub call_answered : (u : Unit {0}) (q : Verdict) → Agrees rule L → r ≡ Ok u → code q ≡ number_of (rule w) → Checks rule L w (code q)
+  call_answered u q a f g = promise a w _ (admitted rule w _ e _ (ap code f) g)
+
+  -- the same as `?` has it: b is where it goes on or leaves
+  pub call_left : (b : _) (f : _) (q : Verdict) → r ≡ result_from_control_flow b → b ≡ Break f → IsErrAnd q (λ y. y ≡ f.0) → Agrees rule L → Checks rule L w (code q)
+  call_left b f q g h k a = let p = err_from_is_err_and q k in rw (p.1, p.2) (call_refused f.0 a (g ∙ ap result_from_control_flow h))
+
+  pub call_passed : (b : _) (u : Unit {0}) (q : Verdict) → r ≡ result_from_control_flow b → b ≡ Continue u → Agrees rule L → code q ≡ number_of (rule w) → Checks rule L w (code q)
+  call_passed b u q g h a k = call_answered u q a (g ∙ ap result_from_control_flow h) k
+
+-- a rule whose answer has a place, asked only whether it refuses: `?` leaves by From<Fault>
+module _ (rule : Reader) (w : List ℕ) (a : Answer) (h : said a ≡ read rule w 0) where
+  pub place_left : (b : _) (f : _) (q : Verdict) → a ≡ result_from_control_flow b → b ≡ Break f → IsErrAnd q (λ y. y ≡ f.0.refusal) → code q ≡ number_of (rule w)
+  place_left b f q g e k = let p = err_from_is_err_and q k in rw (p.1, p.2) (ap answer_number (sym (g ∙ ap result_from_control_flow e)) ∙ answered rule w a h)
+
+  pub place_passed : (b : _) (i : ℕ) → a ≡ result_from_control_flow b → b ≡ Continue i → 0 ≡ number_of (rule w)
+  place_passed b i g e = ap answer_number (sym (g ∙ ap result_from_control_flow e)) ∙ answered rule w a h
 
 -- what the proofs of other crates' public calls search, with the agreement of their rule
-pub ruleset calling = (call_refused, call_answered, told, told_no, rules)
+pub ruleset calling = (call_refused, call_answered, call_left, call_passed, told, told_no, rules)
 
 -- what the proofs of this crate's public calls search
 pub ruleset admitting = (admit_long, admit_yes, admit_no, told_text, rules)

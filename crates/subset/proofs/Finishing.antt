@@ -8,21 +8,19 @@ use borrow.Author.Rules.{rules}
 use mir.Syntax.{w64}
 use mir.Val.{Fits}
 use lib.ListN.{length, take, drop, length-drop}
+use Rattle.std.specs.Prelude.{Ok, Err}
 use Rattle.spec.specs.Basics.{pick}
 use Rattle.spec.specs.Grammar.Names.{Dialect}
 use Rattle.spec.specs.Reading.Readers.{ok, Reader, on_ok, nothing}
 use Rattle.spec.specs.Reading.Dtd.{take_decl_body, has_pe_reference, finish_decl}
 use Rattle.cursor.proofs.Reading.{left_of}
 use Rattle.spec.proofs.Inside.Readers.{body_within}
-use Rattle.error.specs.Read.{Said, passed, said, placed, read}
-use Rattle.error.specs.declared.Answer.{Answer}
-use Rattle.error.specs.declared.Answer.TheVariants.{At, No}
+use Rattle.error.specs.Read.{Said, passed, said, placed, read, Answer, refused}
+use Rattle.error.specs.declared.Fault.{Fault}
 use Rattle.error.proofs.Laws.{was_ok, was_err}
-use Rattle.subset.specs.Kinds.{body_of}
-use Rattle.subset.specs.declared.declarations.Kind.{Kind}
 
 -- r is what take_decl_body gave: the body's end
-module _ (s : List ℕ) (at : ℕ) (r : Answer) (a : said r ≡ read take_decl_body s at) (end : ℕ) (e : r ≡ At end) where
+module _ (s : List ℕ) (at : ℕ) (r : Answer) (a : said r ≡ read take_decl_body s at) (end : ℕ) (e : r ≡ Ok end) where
   -- what the code's answer says: the body goes to its end
   body : (take_decl_body (drop at s) ≡ ok (end - at)) × (end ≡ at + (end - at))
   body =
@@ -43,46 +41,40 @@ module _ (s : List ℕ) (at : ℕ) (r : Answer) (a : said r ≡ read take_decl_b
   finish_fits l = let h = body_in in omega arith
 
 module _ (D : Dialect) (B : Reader) (pe : Bool) (s : List ℕ) (at : ℕ) (r : Answer) (a : said r ≡ read take_decl_body s at) where
-  pub finish_no : (n k : ℕ) → r ≡ No n k → said r ≡ read (finish_decl D pe B) s at
+  pub finish_no : (x : Fault) → r ≡ Err x → said (Err x) ≡ read (finish_decl D pe B) s at
   unfolding read finish_decl
-  finish_no n k e = let (m, (j, (f, g))) = was_err take_decl_body s at n k r a e in g ∙ (rw f)
+  finish_no x e = let (m, (j, (f, g))) = was_err take_decl_body s at x r a e in g ∙ (rw f)
 
-  module _ (end : ℕ) (e : r ≡ At end) where
+  module _ (end : ℕ) (e : r ≡ Ok end) where
     -- what is answered after the body, by whether it is read
     after_body : (t : Bool) → (pe || has_pe_reference D (take (end - at) (drop at s))) ≡ t
         → read (finish_decl D pe B) s at ≡ placed at (on_ok (pick t nothing B (take (end - at) (drop at s))) (λ _. ok (end - at + 1)))
     unfolding read finish_decl
     after_body t f = rw ((body s at r a end e).0, f)
 
-    end_place : said (At (end + 1)) ≡ placed at (ok (end - at + 1))
+    end_place : said (Ok (end + 1)) ≡ placed at (ok (end - at + 1))
     unfolding said
     end_place = ap passed (let g = (body s at r a end e).1 in let z : end + 1 ≡ at + (end - at + 1) = omega arith in z)
 
-    pub finish_used : pe ≡ true → said (At (end + 1)) ≡ read (finish_decl D pe B) s at
+    pub finish_used : pe ≡ true → said (Ok (end + 1)) ≡ read (finish_decl D pe B) s at
     unfolding nothing
     finish_used f = end_place ∙ sym (after_body true (rw f))
 
     module _ (n : pe ≡ false) (t : Bool) (h : t ≡ has_pe_reference D (take (end - at) (drop at s))) where
-      pub finish_unread : t ≡ true → said (At (end + 1)) ≡ read (finish_decl D pe B) s at
+      pub finish_unread : t ≡ true → said (Ok (end + 1)) ≡ read (finish_decl D pe B) s at
       unfolding nothing
       finish_unread f = end_place ∙ sym (after_body true (rw (n, sym h ∙ f)))
 
       module _ (f : t ≡ false) (q : Answer) (b : said q ≡ read B (take (end - 0) (drop 0 s)) at) where
-        pub finish_refused : (m k : ℕ) → q ≡ No m k → said q ≡ read (finish_decl D pe B) s at
-        finish_refused m k g =
-            let (x, (y, (i, j))) = was_err B (take (end - 0) (drop 0 s)) at m k q b g in
+        pub finish_refused : (m : Fault) → q ≡ Err m → said (Err m) ≡ read (finish_decl D pe B) s at
+        finish_refused m g =
+            let (x, (y, (i, j))) = was_err B (take (end - 0) (drop 0 s)) at m q b g in
             j ∙ sym (after_body false (rw (n, sym h ∙ f)) ∙ (rw (← left_of at end s, i)))
 
-        pub finish_read : (m : ℕ) → q ≡ At m → said (At (end + 1)) ≡ read (finish_decl D pe B) s at
+        pub finish_read : (m : ℕ) → q ≡ Ok m → said (Ok (end + 1)) ≡ read (finish_decl D pe B) s at
         finish_read m g =
             let (x, (i, j)) = was_ok B (take (end - 0) (drop 0 s)) at m q b g in
             end_place ∙ sym (after_body false (rw (n, sym h ∙ f)) ∙ (rw (← left_of at end s, i)))
 
--- the reader of a body by the kind of its declaration
-pub body_kind : (D : Dialect) (kind k : Kind) (s : List ℕ) (at : ℕ) (q : Said) → kind ≡ k → q ≡ read (body_of D k) s at → q ≡ read (body_of D kind) s at
-body_kind D kind k s at q e a = rw (e, a)
-
--- what searches the end of a declaration, and its body's kind
+-- what searches the end of a declaration
 pub ruleset finishing = (finish_no, finish_used, finish_unread, finish_refused, finish_read, finish_fits, body_from, body_to, rules)
-
-pub ruleset bodied = (body_kind, rules)

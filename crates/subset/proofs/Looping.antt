@@ -11,17 +11,17 @@ use mir.Syntax.{w64}
 use mir.Val.{Fits}
 use lib.Dec.{eqb}
 use lib.ListN.{length, get_or, drop}
+use Rattle.std.specs.Prelude.{Ok, Err}
 use Rattle.spec.specs.Grammar.Characters.{space}
 use Rattle.spec.specs.Grammar.Names.{Dialect}
-use Rattle.spec.specs.Reading.Refusals.{number, unexpected, unterminated, too_deep}
+use Rattle.spec.specs.Reading.Refusals.{unexpected, unterminated, too_deep}
 use Rattle.spec.specs.Reading.Readers.{Reader, ◌>>◌, refuse, at_end, starts, choose, on, word_of, run}
 use Rattle.spec.specs.Reading.Dtd.{skip_s, parse_pe_reference, parse_markup_decl, parse_internal_subset}
 use Rattle.spec.proofs.Base.Loops.{Somes}
 use Rattle.spec.proofs.Base.Places.{drop_at, drop_end, byte_in, front_at}
 use Rattle.spec.proofs.Dtd.Items.{item, items, items_turn, subset_items, some_reference, some_markup}
-use Rattle.error.specs.Read.{Said, said, placed, read}
-use Rattle.error.specs.declared.Answer.{Answer}
-use Rattle.error.specs.declared.Answer.TheVariants.{At, No}
+use Rattle.error.specs.Read.{Said, said, placed, read, Answer, refused}
+use Rattle.error.specs.declared.Fault.{Fault}
 use Rattle.error.proofs.Laws.{seq_no, seq_at, read_on, walk_less}
 
 -- a sign stands at a place as the byte there says
@@ -51,7 +51,7 @@ module _ (D : Dialect) (pe : Bool) (s : List ℕ) (i₀ i b : ℕ) (W : Said) (i
 
   -- ']' closes the subset
   module _ (f : b ≡ 93) where
-    pub item_close : said (At (i + 1)) ≡ W
+    pub item_close : said (Ok (i + 1)) ≡ W
     unfolding read said item on choose word_of
     item_close = let y = is 93 (λ z. omega arith) f in (rw (y, y)) ∙ here
 
@@ -59,7 +59,7 @@ module _ (D : Dialect) (pe : Bool) (s : List ℕ) (i₀ i b : ℕ) (W : Said) (i
     close_fits l = let g = byte_in s i b e (λ z. omega arith) in omega arith
 
   -- what R reads there takes a byte or more
-  onward : (R : Reader) → Somes R → (b ≡ 0 → ⊥) → (r : Answer) → said r ≡ read R s i → (j : ℕ) → r ≡ At j → length s - j < length s - i₀
+  onward : (R : Reader) → Somes R → (b ≡ 0 → ⊥) → (r : Answer) → said r ≡ read R s i → (j : ℕ) → r ≡ Ok j → length s - j < length s - i₀
   onward R some n r a j g = let l = walk_less R s i j r some (byte_in s i b e n) a g in omega arith
 
   -- a parameter-entity reference
@@ -68,13 +68,13 @@ module _ (D : Dialect) (pe : Bool) (s : List ℕ) (i₀ i b : ℕ) (W : Said) (i
     unfolding read item on choose
     by_reference = (rw (isn't 93 (λ z. omega arith) n, is 37 (λ z. omega arith) f)) ∙ here
 
-    pub item_reference_no : (m k : ℕ) → r ≡ No m k → said r ≡ W
-    item_reference_no m k g = seq_no (parse_pe_reference D) (items D true) s i m k r a g ∙ by_reference
+    pub item_reference_no : (x : Fault) → r ≡ Err x → said (Err x) ≡ W
+    item_reference_no x g = seq_no (parse_pe_reference D) (items D true) s i x r a g ∙ by_reference
 
-    pub item_reference : (j : ℕ) → r ≡ At j → read (items D true) s j ≡ W
+    pub item_reference : (j : ℕ) → r ≡ Ok j → read (items D true) s j ≡ W
     item_reference j g = seq_at (parse_pe_reference D) (items D true) s i j r _ a g refl ∙ by_reference
 
-    pub reference_less : (j : ℕ) → r ≡ At j → length s - j < length s - i₀
+    pub reference_less : (j : ℕ) → r ≡ Ok j → length s - j < length s - i₀
     reference_less j g = onward (parse_pe_reference D) (some_reference D) (λ z. omega arith) r a j g
 
   -- a declaration, an instruction or a comment
@@ -83,13 +83,13 @@ module _ (D : Dialect) (pe : Bool) (s : List ℕ) (i₀ i b : ℕ) (W : Said) (i
     unfolding read item on choose
     by_markup = (rw (isn't 93 (λ z. omega arith) n, isn't 37 (λ z. omega arith) m, is 60 (λ z. omega arith) f)) ∙ here
 
-    pub item_markup_no : (k o : ℕ) → r ≡ No k o → said r ≡ W
-    item_markup_no k o g = seq_no (parse_markup_decl D too_deep pe) (items D pe) s i k o r a g ∙ by_markup
+    pub item_markup_no : (x : Fault) → r ≡ Err x → said (Err x) ≡ W
+    item_markup_no x g = seq_no (parse_markup_decl D too_deep pe) (items D pe) s i x r a g ∙ by_markup
 
-    pub item_markup : (j : ℕ) → r ≡ At j → read (items D pe) s j ≡ W
+    pub item_markup : (j : ℕ) → r ≡ Ok j → read (items D pe) s j ≡ W
     item_markup j g = seq_at (parse_markup_decl D too_deep pe) (items D pe) s i j r _ a g refl ∙ by_markup
 
-    pub markup_less : (j : ℕ) → r ≡ At j → length s - j < length s - i₀
+    pub markup_less : (j : ℕ) → r ≡ Ok j → length s - j < length s - i₀
     markup_less j g = onward (parse_markup_decl D too_deep pe) (some_markup D pe) (λ z. omega arith) r a j g
 
   -- anything else, or the text's end
@@ -98,13 +98,13 @@ module _ (D : Dialect) (pe : Bool) (s : List ℕ) (i₀ i b : ℕ) (W : Said) (i
     unfolding read item on choose
     by_rest = (rw (isn't 93 (λ z. omega arith) n, isn't 37 (λ z. omega arith) m, isn't 60 (λ z. omega arith) f)) ∙ here
 
-    pub item_other : i < length s → said (No (number unexpected) i) ≡ W
-    unfolding read said ◌>>◌ at_end
-    item_other l = (rw (drop_at s i l, add-zero)) ∙ by_rest
+    pub item_other : (x : Fault) → i < length s → said (Err x) ≡ refused unexpected i → said (Err x) ≡ W
+    unfolding read ◌>>◌ at_end
+    item_other x l g = g ∙ (rw (drop_at s i l, add-zero)) ∙ by_rest
 
-    pub item_none : length s ≤ i → said (No (number unterminated) i) ≡ W
-    unfolding read said ◌>>◌ at_end refuse
-    item_none l = (rw (drop_end s i l, add-zero)) ∙ by_rest
+    pub item_none : (x : Fault) → length s ≤ i → said (Err x) ≡ refused unterminated i → said (Err x) ≡ W
+    unfolding read ◌>>◌ at_end refuse
+    item_none x l g = g ∙ (rw (drop_end s i l, add-zero)) ∙ by_rest
 
 -- the subset is the items from its '[' on
 pub subset_starts : (D : Dialect) (s : List ℕ) (at : ℕ) → read (items D false) s at ≡ read (parse_internal_subset D too_deep) s at

@@ -1,18 +1,9 @@
--- The readers of declarations that the code names apart: a body by its kind, and the choice among the four kinds. Assumes nothing.
+-- The readers of declarations that the code names apart: the choice among the four kinds. Assumes nothing.
 use Rattle.std.specs.Prelude.{Bool}
 use Rattle.spec.specs.Grammar.Names.{Dialect}
 use Rattle.spec.specs.Reading.Refusals.{unexpected, too_deep}
 use Rattle.spec.specs.Reading.Readers.{Reader, ◌>>◌, on, word}
 use Rattle.spec.specs.Reading.Dtd.{parse_element_decl, parse_attlist_decl, parse_entity_decl, parse_notation_decl, finish_decl}
-use Rattle.subset.specs.declared.declarations.Kind.{Kind}
-use Rattle.subset.specs.declared.declarations.Kind.TheVariants.{Element, Attlist, Entity, Notation}
-
--- what finish_decl of the Rust is handed
-unfoldable pub body_of : Dialect → Kind → Reader
-body_of D Element = parse_element_decl D too_deep
-body_of D Attlist = parse_attlist_decl D
-body_of D Entity = parse_entity_decl D
-body_of D Notation = parse_notation_decl D
 
 -- the last two choices of parse_markup_decl, and the last four
 unfoldable pub entity_or_notation : Dialect → Bool → Reader

@@ -1,4 +1,5 @@
 // The internal subset: parse_internal_subset of dtd.rs.
+// Text, place and names stay three parameters (classes/src/lib.rt says why).
 ghost use Rattle.std.specs.Prelude.{◌≡◌};
 ghost use Rattle.spec.specs.Reading.Refusals.{too_deep};
 ghost use Rattle.spec.specs.Reading.Dtd.{parse_internal_subset};
@@ -8,11 +9,12 @@ ghost use Rattle.classes.specs.Classes.{dialect};
 use crate::declarations::parse_markup_decl;
 use classes::Names;
 use cursor::skip_s;
-use error::{Answer, UNEXPECTED, UNTERMINATED};
+use error::{Answer, Refusal};
 use markup::parse_pe_reference;
 use utf8::byte_at;
 
 // [28b] intSubset and the ']' that closes it, from the place after its '['
+#[tactic(auto, using(crate::proofs::Looping::looping))]
 pub fn parse_internal_subset(s: &[u8], at: usize, names: Names) -> Answer
     ensures { said result ≡ read (parse_internal_subset (dialect names) too_deep) s.now at }
 {
@@ -22,28 +24,22 @@ pub fn parse_internal_subset(s: &[u8], at: usize, names: Names) -> Answer
         let here = skip_s(s, i);
         let b = byte_at(s, here);
         if b == b']' {
-            return Answer::At(here + 1);
+            return Ok(here + 1);
         }
         if b == b'%' {
-            let r = parse_pe_reference(s, here, names);
-            let Answer::At(j) = r else {
-                return r;
-            };
+            let j = parse_pe_reference(s, here, names)?;
             pe_used = true;
             i = j;
             continue;
         }
         if b == b'<' {
-            let r = parse_markup_decl(s, here, pe_used, names);
-            let Answer::At(j) = r else {
-                return r;
-            };
+            let j = parse_markup_decl(s, here, pe_used, names)?;
             i = j;
             continue;
         }
         if here < s.len() {
-            return Answer::No(UNEXPECTED, here);
+            return Err(Refusal::Unexpected.at(here));
         }
-        return Answer::No(UNTERMINATED, here);
+        return Err(Refusal::Unterminated.at(here));
     }
 }

@@ -5,6 +5,7 @@ use mathlib.Core.Bool.{Bool, false}
 use mathlib.Core.List.{List}
 use Prim.Native.Nat.{ℕ, ◌+◌, ◌-◌, ◌^◌, ◌<◌, ◌≤◌}
 use native.Mathlib.Omega.{arith}
+use Rattle.std.proofs.Common.{Option, Some, None}
 use mir.Syntax.{w64}
 use mir.Val.{Fits}
 use lib.ListN.{length, drop, length-drop}
@@ -13,32 +14,31 @@ use Rattle.spec.specs.Reading.Readers.{begins}
 use Rattle.spec.proofs.Characters.Utf8.{point_size}
 use Rattle.utf8.specs.Seen.{seen}
 use Rattle.utf8.specs.declared.Point.{Point}
-use Rattle.utf8.specs.declared.Point.TheVariants.{Is, Not}
 
-module _ (s : List ℕ) (i c k : ℕ) (p : Point) (a : seen p ≡ decode1 (drop i s)) (b : p ≡ Is c k) where
-  pub code_at : decode1 (drop i s) ≡ point c k
+module _ (s : List ℕ) (i : ℕ) (o : Option Point) (p : Point) (a : seen o ≡ decode1 (drop i s)) (b : o ≡ Some p) where
+  pub code_at : decode1 (drop i s) ≡ point p.code p.width
   unfolding seen
   code_at = sym a ∙ ap seen b
 
   -- its bytes, one or more, stand in the text
-  pub point_in : (1 ≤ k) × (k ≤ length s - i)
-  point_in = simp length-drop at (point_size c k (drop i s) code_at)
+  pub point_in : (1 ≤ p.width) × (p.width ≤ length s - i)
+  point_in = simp length-drop at (point_size p.code p.width (drop i s) code_at)
 
-  pub point_end : i + k ≤ length s
+  pub point_end : i + p.width ≤ length s
   point_end = let v = point_in in omega arith
 
-  pub point_fits : length s < 2 ^ 64 → Fits w64 (i + k)
+  pub point_fits : length s < 2 ^ 64 → Fits w64 (i + p.width)
   point_fits g = let v = point_end in omega arith
 
-  pub point_less : length s - (i + k) < length s - i
+  pub point_less : length s - (i + p.width) < length s - i
   point_less = let v = point_in in omega arith
 
   -- whether a character of a class begins there
-  pub begins_point : (P : ℕ → Bool) (t : Bool) → t ≡ P c → t ≡ begins P (drop i s)
+  pub begins_point : (P : ℕ → Bool) (t : Bool) → t ≡ P p.code → t ≡ begins P (drop i s)
   unfolding begins
   begins_point P t e = rw code_at e
 
-module _ (s : List ℕ) (i : ℕ) (p : Point) (a : seen p ≡ decode1 (drop i s)) (b : p ≡ Not) where
+module _ (s : List ℕ) (i : ℕ) (o : Option Point) (a : seen o ≡ decode1 (drop i s)) (b : o ≡ None) where
   pub none_at : decode1 (drop i s) ≡ no_point
   unfolding seen
   none_at = sym a ∙ ap seen b

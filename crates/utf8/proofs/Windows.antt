@@ -4,7 +4,12 @@ use mathlib.Core.Bool.{Bool, beq, true, false, not, ◌||◌, ◌&&◌, true≢f
 use mathlib.Core.List.{List, [], ◌∷◌}
 use Prim.Native.Nat.{ℕ, zero, suc, ◌+◌, ◌-◌, ◌<◌, ◌≤◌}
 use native.Mathlib.Omega.{arith}
-use borrow.Author.Rules.{rules}
+use Rattle.std.proofs.Common.{fold, Option, Some, None, Bor}
+use Rattle.std.proofs.lemmas.Iterator.{window_more}
+use Rattle.std.proofs.lemmas.Option.{MatchOption-at_none}
+use Rattle.std.specs.Slice.Iter.{windows_rest, windows_size, windows_steps}
+use Rattle.std.specs.Slice.ArrayWindows.{array_windows_parts}
+use Rattle.std.specs.declared.slice.ArrayWindows.{ArrayWindows}
 use borrow.Author.Tests.{ltb-true, ltb-false, eqb-false, le-leb, lt-leb, eq-eqb, not-true}
 use lib.Dec.{leb, ltb, eqb}
 use lib.ListN.{length, get_or, drop}
@@ -16,7 +21,7 @@ use Rattle.spec.proofs.Characters.Utf8.{decode_1, decode4_2, decode4_3, decode4_
 use Rattle.spec.proofs.Characters.Valid.{utf8_end}
 use Rattle.utf8.specs.Seen.{accepts}
 use Rattle.utf8.specs.Window.{due, off, fine}
-use Rattle.utf8.proofs.Decoding.{accepts_turn, valid_end}
+use Rattle.utf8.proofs.Decoding.{accepts_turn}
 
 none : (a b : Bool) → a || b ≡ false → (a ≡ false) × (b ≡ false)
 none a b e = (or_false_left a b e, or_false_right a b e)
@@ -27,14 +32,11 @@ same true false e = absurd (true≢false e)
 same false true e = absurd (true≢false e)
 same false false e = refl
 
--- the code's test of one byte, where d says whether a tail is due, and of the first three
-pub off_by : (x y z b : ℕ) (d : Bool) → d ≡ due x y z
-    → not (beq (tail b) d) || eqb b 0xC0 || eqb b 0xC1 || leb 0xF5 b || eqb z 0xE0 && ltb b 0xA0 || eqb z 0xED && leb 0xA0 b || eqb z 0xF0 && ltb b 0x90 || eqb z 0xF4 && leb 0x90 b ≡ off x y z b
+-- the code's test of one byte, where t says whether it is a tail, and d whether one is due
+pub off_by : (x y z b : ℕ) (t d : Bool) → t ≡ tail b → d ≡ due x y z
+    → not (beq t d) || eqb b 0xC0 || eqb b 0xC1 || leb 0xF5 b || eqb z 0xE0 && ltb b 0xA0 || eqb z 0xED && leb 0xA0 b || eqb z 0xF0 && ltb b 0x90 || eqb z 0xF4 && leb 0x90 b ≡ off x y z b
 unfolding off
-off_by x y z b d e = rw e
-
-pub front_is : (a b c : ℕ) (p q r : Bool) → p ≡ off 0 0 0 a → q ≡ off 0 0 a b → r ≡ off 0 a b c → p || q || r ≡ off 0 0 0 a || off 0 0 a b || off 0 a b c
-front_is a b c p q r ep eq er = rw (ep, eq, er)
+off_by x y z b t d f e = rw (f, e)
 
 -- what a byte that is in order is
 record InOrder (x y z b : ℕ) : Type 0 where
@@ -165,16 +167,16 @@ fine_valid : (w : List ℕ) → fine 0 0 0 w ≡ true → accepts (utf8 w) ≡ t
 unfolding Upto
 fine_valid w e = upto (length w) 0 0 0 w (omega arith) (omega arith) (omega arith) (omega arith) e
 
--- the loops: a byte of the front is below 0x80, or in order
-module _ (s : List ℕ) (i : ℕ) (bad W : Bool) (inv : bad ≡ false → accepts (utf8 (drop i s)) ≡ W) where
-  pub high_go : i < length s → bad || leb 0x80 (get_or s i 0) ≡ false → accepts (utf8 (drop (i + 1) s)) ≡ W
-  high_go h e =
-      let (p, q) = none bad (leb 0x80 (get_or s i 0)) e in
-      let d = drop_at s i h in
-      sym (ap (λ (w : List ℕ). accepts (utf8 w)) d ∙ accepts_turn (get_or s i 0 ∷ drop (i + 1) s) (get_or s i 0) 1 (decode_1 (get_or s i 0) (drop (i + 1) s) (leb_false 0x80 (get_or s i 0) q))) ∙ inv p
+-- where no byte is 0x80 or more, each is a code point
+high_none : (w : List ℕ) (found : Bool) → fold (λ (x : Bool) (b : ℕ). x || leb 0x80 b) found w ≡ false → (found ≡ false) × (accepts (utf8 w) ≡ true)
+high_none [] found e = (e, ap accepts utf8_end)
+high_none (a ∷ w) found e =
+    let (p, q) = high_none w (found || leb 0x80 a) e in
+    let (f, l) = none found (leb 0x80 a) p in
+    (f, accepts_turn (a ∷ w) a 1 (decode_1 a w (leb_false 0x80 a l)) ∙ q)
 
-pub high_end : (s : List ℕ) (i : ℕ) (bad : Bool) → (bad ≡ false → accepts (utf8 (drop i s)) ≡ accepts (utf8 s)) → length s ≤ i → bad ≡ false → true ≡ accepts (utf8 s)
-high_end s i bad inv h e = valid_end s i (inv e) h
+pub high_valid : (w : List ℕ) → fold (λ (x : Bool) (b : ℕ). x || leb 0x80 b) false w ≡ false → true ≡ accepts (utf8 w)
+high_valid w e = sym ((high_none w false e).1)
 
 fine_one : (x y z b : ℕ) (w : List ℕ) → off x y z b ≡ false → fine x y z (b ∷ w) ≡ fine y z b w
 unfolding fine
@@ -212,9 +214,58 @@ module _ (s : List ℕ) (i : ℕ) (bad : Bool) (inv : bad ≡ false → left s i
       let (p, q) = none bad t e in
       sym (fine_valid s (sym (inv p) ∙ (rw (drop_end s i h, ← d, q))))
 
--- a quick test that found nothing
-pub quick : (w : List ℕ) (t : Bool) → (t ≡ false → true ≡ accepts (utf8 w)) → t ≡ false → true ≡ accepts (utf8 w)
-quick w t f e = f e
+-- the windows ahead are those of the text's end, of three bytes or more: if no byte so far is out of place, those passed do not decide
+pub record Ahead (s : List ℕ) (w : ArrayWindows ℕ 4) (bad : Bool) : Type 0 where
+  pub size : windows_size (array_windows_parts w) ≡ 4
+  pub rest : windows_rest (array_windows_parts w) ≡ drop (length s - length (windows_rest (array_windows_parts w))) s
+  pub some : 3 ≤ length (windows_rest (array_windows_parts w))
+  pub inside : length (windows_rest (array_windows_parts w)) ≤ length s
+  pub ends : bad ≡ false → due (get_or s (length s - 3) 0) (get_or s (length s - 2) 0) (get_or s (length s - 1) 0) ≡ false
+  pub passed : bad ≡ false → left s (length s - length (windows_rest (array_windows_parts w)) + 3) ≡ fine 0 0 0 s
 
--- what the proofs of the quick tests search
-pub ruleset windows = (high_go, high_end, quick, rules)
+module _ (s : List ℕ) (w v : ArrayWindows ℕ 4) (r : Option (Bor (List ℕ))) where
+  pub ahead_start : (p q : Bool) → windows_size (array_windows_parts w) ≡ 4 → windows_rest (array_windows_parts w) ≡ s → 3 ≤ length s
+      → p ≡ off 0 0 0 (get_or s 0 0) || off 0 0 (get_or s 0 0) (get_or s 1 0) || off 0 (get_or s 0 0) (get_or s 1 0) (get_or s 2 0)
+      → q ≡ due (get_or s (length s - 3) 0) (get_or s (length s - 2) 0) (get_or s (length s - 1) 0) → Ahead s w (p || q)
+  ahead_start p q z e h f g =
+      let n : length s - length s ≡ 0 = omega arith in
+      record {
+        size = z;
+        rest = rw (e, n);
+        some = rw e h;
+        inside = rw e (omega arith);
+        ends = λ b. sym g ∙ (none p q b).1;
+        passed = λ b. rw (e, n) (fine_start s p h f (none p q b).0);
+      }
+
+  module _ (bad : Bool) (a : Ahead s w bad) (steps : windows_steps (array_windows_parts w) r (array_windows_parts v)) where
+    pub ahead_go : (x : Bor (List ℕ)) (t : Bool) → r ≡ Some x → t ≡ off (get_or x.now 0 0) (get_or x.now 1 0) (get_or x.now 2 0) (get_or x.now 3 0) → Ahead s v (bad || t)
+    ahead_go x t e d =
+        let z : 0 < windows_size (array_windows_parts w) = omega (arith, a.size) in
+        let (l, f, m, g) = window_more s (array_windows_parts w) (array_windows_parts v) r x e steps z a.inside a.rest in
+        let i = length s - length (windows_rest (array_windows_parts w)) + 3 in
+        let four = a.size in
+        let in_text = a.inside in
+        let n : i + 1 ≡ length s - length (windows_rest (array_windows_parts v)) + 3 = omega arith in
+        let n3 : i - 3 ≡ length s - length (windows_rest (array_windows_parts w)) + 0 = omega arith in
+        let n2 : i - 2 ≡ length s - length (windows_rest (array_windows_parts w)) + 1 = omega arith in
+        let n1 : i - 1 ≡ length s - length (windows_rest (array_windows_parts w)) + 2 = omega arith in
+        let t4 : t ≡ off (get_or s (i - 3) 0) (get_or s (i - 2) 0) (get_or s (i - 1) 0) (get_or s i 0) =
+        rw (n3, n2, n1, ← g 0 0 (omega arith), ← g 1 0 (omega arith), ← g 2 0 (omega arith), ← g 3 0 (omega arith)) d in
+        record {
+          size = steps.0 ∙ a.size;
+          rest = f;
+          some = omega arith;
+          inside = omega arith;
+          ends = λ b. a.ends (none bad t b).0;
+          passed = λ b. ap (λ (k : ℕ). left s k) (sym n) ∙ fine_go s i bad a.passed t (omega arith) (omega arith) t4 b;
+        }
+
+    pub ahead_end : r ≡ None → bad ≡ false → true ≡ accepts (utf8 s)
+    ahead_end e b =
+        let short = (MatchOption-at_none _ _ e steps.1).0 in
+        let four = a.size in
+        let some = a.some in
+        let in_text = a.inside in
+        let n : length s - length (windows_rest (array_windows_parts w)) + 3 ≡ length s = omega arith in
+        fine_end s (length s) bad (rw n at a.passed) false (omega arith) (sym (a.ends b)) (rw b)

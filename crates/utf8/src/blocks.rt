@@ -1,56 +1,40 @@
 // Passing over the ASCII of a text, a block at a time: most of a text, and UTF-8 as it stands.
-ghost use Rattle.std.specs.Prelude.{◌≡◌};
-ghost use Rattle.spec.specs.Reading.Utf8.{tail};
+ghost use Rattle.std.specs.Prelude.{◌≡◌, ◌<◌, ◌≤◌, length, IfSome};
 ghost use Rattle.utf8.specs.Passed.{Passed, Near};
 
-use crate::byte_at;
+use crate::{byte_at, high, is_tail};
 
 // Few enough bytes that one accent spoils little, and enough for vector code.
 const BLOCK: usize = 64;
 
-// The place after a block of ASCII, or `at`. No test ends the loop, so that it becomes vector code.
-fn past_block(s: &[u8], at: usize) -> usize
-    ensures { Passed s.now at result }
+// The place after the block of ASCII at a place, if one stands there.
+#[tactic(auto, using(crate::proofs::Parts::passed_block))]
+fn past_block(s: &[u8], at: usize) -> Option<usize>
+    ensures onward { IfSome result (λ end. at < end) }
+    ensures inside { IfSome result (λ end. end ≤ length s.now) }
+    ensures passed { IfSome result (λ end. Passed s.now at end) }
 {
-    if s.len() < BLOCK {
-        return at;
+    // two tests and a part: `s.get(at..)?.get(..BLOCK)?` takes 38 percent more instructions
+    let last = s.len().checked_sub(BLOCK)?;
+    if last < at {
+        return None;
     }
-    if s.len() - BLOCK < at {
-        return at;
+    if high(&s[at..at + BLOCK]) {
+        return None;
     }
-    let end = at + BLOCK;
-    let mut found = false;
-    let mut i = at;
-    while i < end {
-        found = found | (0x80 <= s[i]);
-        i += 1;
-    }
-    if found {
-        return at;
-    }
-    i
+    Some(at + BLOCK)
 }
 
 // The place after all such blocks from `at` on.
+#[tactic(auto, using(crate::proofs::Parts::skipping))]
 pub fn skip_blocks(s: &[u8], at: usize) -> usize
     ensures { Passed s.now at result }
 {
     let mut i = at;
-    while i < s.len() {
-        let end = past_block(s, i);
-        if end <= i {
-            return i;
-        }
+    while let Some(end) = past_block(s, i) {
         i = end;
     }
     i
-}
-
-// RFC 3629, section 4: UTF8-tail.
-fn is_tail(b: u8) -> bool
-    ensures { result ≡ tail b }
-{
-    (0x80 <= b) & (b <= 0xBF)
 }
 
 // Where the character that `at` lies in begins, if the text is UTF-8: at most three bytes before. Only speed rests on that it does.

@@ -1,54 +1,118 @@
 // What a call answers, and how an answer is written in a vector. A new form of answer is one more
-// variant here and one more arm of `spell`.
-use crate::{bytes, documents};
+// variant here, and one more arm where it is written.
+use document::{Spot, Verdict};
+use error::{Answer, Refusal};
+use gate::Docked;
+use scan::Scanned;
+use std::fmt;
 
 #[derive(Clone, Copy)]
 pub enum Reply {
-    // the call is not known
-    Unknown,
-    // a number
     Number(u8),
     // a number, and `y` or `n`
     Verdict(u8, bool),
     // a number and a place, as `13@24`
     Placed(u8, usize),
-    // a letter
-    Word(u8),
+    Letter(char),
     // a letter and a number of bytes, as `l5`
-    Measure(u8, usize),
-    // that the subset is open
+    Measure(char, usize),
+    // the subset is open
     Open,
     // what is told of a document
-    Told(document::Verdict),
+    Told(Verdict),
 }
 
-// Writes the answer at the start of `out`, and answers how many bytes it takes: none for a call that
-// is not known.
-pub fn spell(reply: Reply, out: &mut [u8]) -> usize {
-    match reply {
-        Reply::Unknown => 0,
-        Reply::Number(number) => bytes::decimal(out, 0, number as u64),
-        Reply::Verdict(number, yes) => verdict(number, yes, out),
-        Reply::Placed(number, place) => placed(number, place, out),
-        Reply::Word(letter) => bytes::put(out, 0, letter),
-        Reply::Measure(letter, size) => measure(letter, size, out),
-        Reply::Open => bytes::append(out, 0, b"open"),
-        Reply::Told(found) => documents::spell(found, out),
+impl fmt::Display for Reply {
+    fn fmt<W: fmt::Write>(&self, f: &mut fmt::Formatter<W>) -> fmt::Result {
+        match self {
+            Reply::Number(number) => write!(f, "{number}"),
+            Reply::Verdict(number, true) => write!(f, "{number}y"),
+            Reply::Verdict(number, false) => write!(f, "{number}n"),
+            Reply::Placed(number, place) => write!(f, "{number}@{place}"),
+            Reply::Letter(letter) => write!(f, "{letter}"),
+            Reply::Measure(letter, size) => write!(f, "{letter}{size}"),
+            Reply::Open => write!(f, "open"),
+            Reply::Told(verdict) => write_verdict(verdict, f),
+        }
     }
 }
 
-fn verdict(number: u8, yes: bool, out: &mut [u8]) -> usize {
-    let at = bytes::decimal(out, 0, number as u64);
-    bytes::put(out, at, if yes { b'y' } else { b'n' })
+// As `0@29:2:29/29/10-27/1`, where `-` stands for the DOCTYPE's range if there is none.
+fn write_verdict<W: fmt::Write>(verdict: &Verdict, f: &mut fmt::Formatter<W>) -> fmt::Result {
+    match verdict {
+        Ok(said) => {
+            let Spot {
+                place,
+                line,
+                column,
+            } = said.root;
+            write!(f, "0@{place}:{line}:{column}/{place}/")?;
+            match said.doctype {
+                Some(text) => write!(f, "{}-{}", text.start, text.end)?,
+                None => write!(f, "-")?,
+            }
+            write!(f, "/{}", said.unread)
+        }
+        Err(said) => {
+            let Spot {
+                place,
+                line,
+                column,
+            } = said.at;
+            let number = said.refusal.number();
+            write!(f, "{number}@{place}:{line}:{column}/{}/-/0", said.opened)
+        }
+    }
 }
 
-fn placed(number: u8, place: usize, out: &mut [u8]) -> usize {
-    let at = bytes::decimal(out, 0, number as u64);
-    let at = bytes::put(out, at, b'@');
-    bytes::decimal(out, at, place as u64)
+impl From<error::Verdict> for Reply {
+    fn from(verdict: error::Verdict) -> Reply {
+        Reply::Number(error::code(verdict))
+    }
 }
 
-fn measure(letter: u8, size: usize, out: &mut [u8]) -> usize {
-    let at = bytes::put(out, 0, letter);
-    bytes::decimal(out, at, size as u64)
+impl From<Answer> for Reply {
+    fn from(answer: Answer) -> Reply {
+        match answer {
+            Ok(end) => Reply::Placed(0, end),
+            Err(fault) => Reply::Placed(fault.refusal.number(), fault.place),
+        }
+    }
+}
+
+impl From<Result<bool, Refusal>> for Reply {
+    fn from(yes: Result<bool, Refusal>) -> Reply {
+        match yes {
+            Ok(yes) => Reply::Verdict(0, yes),
+            Err(refusal) => Reply::Verdict(refusal.number(), false),
+        }
+    }
+}
+
+impl From<Verdict> for Reply {
+    fn from(verdict: Verdict) -> Reply {
+        Reply::Told(verdict)
+    }
+}
+
+impl From<Result<Docked, Refusal>> for Reply {
+    fn from(reply: Result<Docked, Refusal>) -> Reply {
+        match reply {
+            Ok(Docked::Whole) => Reply::Number(0),
+            Ok(Docked::Open) => Reply::Open,
+            Err(refusal) => Reply::Number(refusal.number()),
+        }
+    }
+}
+
+// Not opened, not closed, or the place of the subset's ']'.
+impl From<Result<Scanned, Refusal>> for Reply {
+    fn from(scanned: Result<Scanned, Refusal>) -> Reply {
+        match scanned {
+            Ok(Scanned::NotOpened) => Reply::Letter('o'),
+            Ok(Scanned::NotClosed) => Reply::Letter('c'),
+            Ok(Scanned::Closed(at)) => Reply::Measure('p', at),
+            Err(refusal) => Reply::Number(refusal.number()),
+        }
+    }
 }

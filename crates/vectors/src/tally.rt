@@ -1,109 +1,79 @@
 // Comparing and counting.
-use crate::bytes::Word;
-use crate::gates::Stepped;
-use crate::line::{Kind, Line};
-use crate::{bytes, gates, line, report, text};
+use crate::gates;
+use crate::vector::{Fault, Vector};
 use gate::Gate;
+use std::io::Write;
+use std::{fmt, io};
+
+// So many bytes of a wanted answer are written: more than any answer has.
+const SHOWN: usize = 64;
 
 // How many lines there were, how many of them were vectors, and of these how many differ and how many
 // have a call that is not known; and the gate's record, which goes from line to line.
-#[derive(Clone, Copy)]
+#[derive(Drop)]
 pub struct Tally {
-    pub lines: u64,
-    pub vectors: u64,
-    pub differ: u64,
-    pub unknown: u64,
-    pub gate: Gate,
+    lines: u64,
+    vectors: u64,
+    differ: u64,
+    unknown: u64,
+    gate: Gate,
 }
 
-// What came of a vector.
-#[derive(Clone, Copy)]
-enum Outcome {
-    Agrees,
-    Differs,
-    Unknown,
-}
-
-pub fn fresh() -> Tally {
-    let gate = gates::fresh();
-    Tally {
-        lines: 0,
-        vectors: 0,
-        differ: 0,
-        unknown: 0,
-        gate,
-    }
-}
-
-// The tally after one more line, which is at its end.
-pub fn close(tally: Tally, line: Line, call: &Word, answer: &Word, out: &mut [u8]) -> Tally {
-    let mut now = tally;
-    now.lines = std::num::wrapping_add_u64(tally.lines, 1);
-    let text = line.text;
-    let text = text::finish(text, out);
-    match line::kind_of(line, text) {
-        Kind::Nothing => now,
-        Kind::Malformed => {
-            report::malformed(now.lines);
-            counted(now, Outcome::Differs)
-        }
-        Kind::Vector => {
-            let word = bytes::front(call, line.call);
-            let wanted = bytes::front(answer, line.answer);
-            answered(now, word, wanted, bytes::front(out, text.length))
+impl Tally {
+    pub fn new() -> Tally {
+        Tally {
+            lines: 0,
+            vectors: 0,
+            differ: 0,
+            unknown: 0,
+            gate: Gate::default(),
         }
     }
-}
 
-// The tally after a vector whose line is counted.
-fn answered(tally: Tally, word: &[u8], wanted: &[u8], text: &[u8]) -> Tally {
-    let before = tally.gate;
-    let step = gates::step(before, word, wanted, text);
-    let outcome = compare(tally.lines, word, wanted, step);
-    let after = step.gate;
-    counted(with_gate(tally, after), outcome)
-}
-
-// The tally with the gate's record as a line left it.
-fn with_gate(tally: Tally, gate: Gate) -> Tally {
-    Tally {
-        lines: tally.lines,
-        vectors: tally.vectors,
-        differ: tally.differ,
-        unknown: tally.unknown,
-        gate,
-    }
-}
-
-// Compares a call's answer with the one wanted. No answer is empty, so an empty one says that the call
-// is not known.
-fn compare(line: u64, word: &[u8], wanted: &[u8], step: Stepped) -> Outcome {
-    let mut space = [0u8; 64];
-    let out: &mut [u8] = &mut space;
-    let n = gates::spell(step, out);
-    if n == 0 {
-        return Outcome::Unknown;
-    }
-    let got = bytes::front(out, n);
-    if bytes::same(wanted, got) {
-        return Outcome::Agrees;
-    }
-    report::differs(line, word, wanted, got);
-    Outcome::Differs
-}
-
-// The tally with one vector more.
-fn counted(tally: Tally, outcome: Outcome) -> Tally {
-    let mut after = tally;
-    after.vectors = std::num::wrapping_add_u64(tally.vectors, 1);
-    match outcome {
-        Outcome::Agrees => {}
-        Outcome::Differs => {
-            after.differ = std::num::wrapping_add_u64(tally.differ, 1);
-        }
-        Outcome::Unknown => {
-            after.unknown = std::num::wrapping_add_u64(tally.unknown, 1);
+    // Counts one more line, and says where it is malformed or its call answers otherwise.
+    pub fn add(&mut self, rt: &(impl Print + AllocGlobal), line: &[u8]) -> io::Result<()> {
+        self.lines = self.lines.wrapping_add(1);
+        match Vector::read(rt.alloc(), line) {
+            Ok(None) => Ok(()),
+            Ok(Some(vector)) => self.compare(rt, &vector),
+            Err(Fault::OutOfMemory(e)) => Err(e.into()),
+            Err(Fault::Malformed) => {
+                self.vectors = self.vectors.wrapping_add(1);
+                self.differ = self.differ.wrapping_add(1);
+                println!(rt; "line {}: malformed", self.lines)
+            }
         }
     }
-    after
+
+    fn compare(&mut self, rt: &(impl Print + AllocGlobal), vector: &Vector) -> io::Result<()> {
+        self.vectors = self.vectors.wrapping_add(1);
+        let Vector { call, answer, text } = vector;
+        let Some(got) = gates::ask(&mut self.gate, call, answer, text) else {
+            self.unknown = self.unknown.wrapping_add(1);
+            return Ok(());
+        };
+        let got = format!(in rt.alloc(); "{got}")?;
+        if got.as_bytes() == *answer {
+            return Ok(());
+        }
+        self.differ = self.differ.wrapping_add(1);
+        self.report(rt, vector, got.as_str())
+    }
+
+    // The columns may hold any bytes, so they are written as they are.
+    fn report(&self, rt: &impl Print, vector: &Vector, got: &str) -> io::Result<()> {
+        let mut out = io::writer(rt);
+        write!(out, "line {}: ", self.lines)?;
+        out.write_all(vector.call)?;
+        out.write_all(b" wanted ")?;
+        out.write_all(vector.answer.get(..SHOWN).unwrap_or(vector.answer))?;
+        writeln!(out, " got {got}")
+    }
+}
+
+impl fmt::Display for Tally {
+    fn fmt<W: fmt::Write>(&self, f: &mut fmt::Formatter<W>) -> fmt::Result {
+        write!(f, "{} vectors, ", self.vectors)?;
+        write!(f, "{} differ, {} not known", self.differ, self.unknown)
+    }
 }

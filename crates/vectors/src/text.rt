@@ -1,151 +1,66 @@
 // The third column: pieces joined by `+`, each a run of pairs of hexadecimal digits that may be
 // followed by `*` and a decimal number, which says how often the run stands there.
-ghost use Rattle.std.specs.Prelude.{◌<◌, ◌≤◌};
+use crate::vector::Fault;
+use std::alloc::{AllocError, Global};
 
-use crate::{bytes, repeat};
+// Room for the longest text that a call can take (1,048,576 bytes), and for what stands around a
+// DOCTYPE of that length in a document. A longer text is cut to that.
+const LONGEST: usize = 1_048_600;
 
-// What the next byte of the column goes on with.
-#[derive(Clone, Copy)]
-pub enum Place {
-    // a pair of digits
-    Pair,
-    // the second digit of a pair, of which the first is held
-    Half(u8),
-    // the first digit of a number
-    Star,
-    // a number, held as far as it was read
-    Count(usize),
-    // nothing: the column is malformed
-    Bad,
-}
-
-// The text as far as it is decoded: how many bytes there are, where the last piece of them begins,
-// and where in the column we are.
-#[derive(Clone, Copy)]
-pub struct Text {
-    pub length: usize,
-    pub piece: usize,
-    pub place: Place,
-}
-
-pub fn fresh() -> Text {
-    piece(0)
-}
-
-// The text after one more byte of its column.
-pub fn next(text: Text, byte: u8, out: &mut [u8]) -> Text {
-    let place = text.place;
-    match place {
-        Place::Pair => first(text, byte),
-        Place::Half(high) => second(text, high, byte, out),
-        Place::Star => number(text, 0, byte),
-        Place::Count(count) => {
-            if byte == b'+' {
-                repeated(text, count, out)
-            } else {
-                number(text, count, byte)
-            }
-        }
-        Place::Bad => text,
+pub fn decode(alloc: Global, column: &[u8]) -> Result<Vec<u8>, Fault> {
+    let mut text = Vec::new(alloc);
+    for piece in column.split(|byte| *byte == b'+') {
+        append(&mut text, piece)?;
     }
+    Ok(text)
 }
 
-// The text at the end of its column, which may not break off within a pair or before a number.
-pub fn finish(text: Text, out: &mut [u8]) -> Text {
-    let place = text.place;
-    match place {
-        Place::Pair => text,
-        Place::Count(count) => repeated(text, count, out),
-        Place::Half(_) | Place::Star | Place::Bad => at(text, Place::Bad),
-    }
-}
-
-pub fn is_bad(text: Text) -> bool {
-    let place = text.place;
-    if let Place::Bad = place { true } else { false }
-}
-
-// The start of a piece after `length` bytes.
-fn piece(length: usize) -> Text {
-    Text {
-        length,
-        piece: length,
-        place: Place::Pair,
-    }
-}
-
-// The same bytes, at another place of the column.
-fn at(text: Text, place: Place) -> Text {
-    Text {
-        length: text.length,
-        piece: text.piece,
-        place,
-    }
-}
-
-// A byte between two pairs.
-fn first(text: Text, byte: u8) -> Text {
-    match byte {
-        b'+' => piece(text.length),
-        b'*' => at(text, Place::Star),
-        _ => {
-            let high = digit(byte);
-            if high < 16 {
-                at(text, Place::Half(high))
-            } else {
-                at(text, Place::Bad)
-            }
+fn append(text: &mut Vec<u8>, piece: &[u8]) -> Result<(), Fault> {
+    let (digits, count) = match piece.iter().position(|byte| *byte == b'*') {
+        Some(star) => (&piece[..star], number(&piece[star + 1..])),
+        None => (piece, Some(1)),
+    };
+    let count = count.ok_or(Fault::Malformed)?;
+    let (pairs, []) = digits.as_chunks::<2>() else {
+        return Err(Fault::Malformed);
+    };
+    let from = text.len();
+    for pair in pairs {
+        let byte = byte(pair).ok_or(Fault::Malformed)?;
+        if text.len() < LONGEST {
+            text.push(byte)?;
         }
     }
+    repeat(text, from, count)?;
+    Ok(())
 }
 
-// A byte after the first digit of a pair. Where the buffer is full the pair is left out.
-fn second(text: Text, high: u8, byte: u8, out: &mut [u8]) -> Text {
-    let low = digit(byte);
-    if low > 15 {
-        return at(text, Place::Bad);
-    }
-    let length = bytes::put(out, text.length, high % 16 * 16 + low);
-    Text {
-        length,
-        piece: text.piece,
-        place: Place::Pair,
-    }
+fn byte([high, low]: &[u8; 2]) -> Option<u8> {
+    let high = char::from(*high).to_digit(16)?;
+    let low = char::from(*low).to_digit(16)?;
+    Some((high * 16 + low) as u8)
 }
 
-// A byte that has to be a digit of a number. The number stops growing at ten million: no buffer here
-// is as long, so a larger number gives the same text.
-fn number(text: Text, count: usize, byte: u8) -> Text {
-    let value = digit(byte);
-    if value > 9 {
-        return at(text, Place::Bad);
+// The number is held where it would be too large: no text here is as long.
+fn number(digits: &[u8]) -> Option<usize> {
+    if digits.is_empty() {
+        return None;
     }
-    if count < 1000000 {
-        at(text, Place::Count(count * 10 + wide(value)))
-    } else {
-        at(text, Place::Count(10000000))
-    }
+    digits.iter().try_fold(0usize, |number, digit| {
+        let digit = char::from(*digit).to_digit(10)?;
+        Some(number.saturating_mul(10).saturating_add(digit as usize))
+    })
 }
 
-// The text with its last piece `count` times in place of once, and then a new piece.
-fn repeated(text: Text, count: usize, out: &mut [u8]) -> Text {
-    piece(repeat::repeat(out, text.piece, text.length, count))
-}
-
-// The value of a hexadecimal digit, or 16 where `byte` is none.
-pub fn digit(byte: u8) -> u8
-    ensures { result ≤ 16 }
-{
-    match byte {
-        b'0'..=b'9' => byte - b'0',
-        b'a'..=b'f' => byte - b'a' + 10,
-        b'A'..=b'F' => byte - b'A' + 10,
-        _ => 16,
+// Puts what stands from `from` on there `count` times in place of once.
+fn repeat(text: &mut Vec<u8>, from: usize, count: usize) -> Result<(), AllocError> {
+    let once = text.len().saturating_sub(from);
+    let end = once.saturating_mul(count).saturating_add(from).min(LONGEST);
+    text.truncate(end);
+    while from < text.len() && text.len() < end {
+        // What is there is the piece a whole number of times, so a turn copies all of it.
+        let more = (text.len() - from).min(end - text.len());
+        text.extend_from_within(from..from + more)?;
     }
-}
-
-pub fn wide(x: u8) -> usize
-    ensures { result < 256 }
-{
-    x as usize
+    Ok(())
 }

@@ -5,14 +5,10 @@ use Rattle.models.specs.Parts.{model}
 use Rattle.models.proofs.Contentspecs.{specified}
 use Rattle.models.proofs.parse_contentspec.Goals as goal
 
-pub returns-in-At : goal.returns-in-At
-unfolding parse_contentspec model on
-returns-in-At c = search specified
-
-pub returns-in-At-r : goal.returns-in-At-r
-unfolding parse_contentspec model on
-returns-in-At-r c = search specified
+pub returns-in-Ok-eat_str : goal.returns-in-Ok-eat_str
+unfolding on parse_contentspec model
+returns-in-Ok-eat_str c = search specified
 
 pub returns : goal.returns
-unfolding parse_contentspec model on
+unfolding on parse_contentspec model
 returns c = search specified

@@ -1,13 +1,15 @@
 -- What is left to show of `unfit`. Assumes nothing.
 use borrow.Author.Rules.{rules}
-use Rattle.utf8.proofs.Windows.{fine_start, fine_go, fine_end}
+use borrow.Author.Tests.{tests}
+use Rattle.std.proofs.Common.{None}
+use Rattle.utf8.proofs.Windows.{ahead_start, ahead_go, ahead_end}
 use Rattle.utf8.proofs.unfit.Goals as goal
 
-pub loop-i-init : goal.loop-i-init
-loop-i-init c = (search rules, (search rules, λ e. fine_start _ _ (search rules) c.wrong_front-bad.ensures e))
+pub loop-x-init : goal.loop-x-init
+loop-x-init c = ahead_start _ _ c.array_windows-x-items.result None _ _ (search rules) (search rules) (search (rules, tests)) c.wrong_front.ensures c.is_due.ensures
 
-pub loop-i-preserved : goal.loop-i-preserved
-loop-i-preserved c = let l = c.loop-i in (search rules, (search rules, λ e. fine_go _ _ _ l.invariant.1.1 _ l.invariant.0 c.loop-i-test.true c.wrong-bad.ensures e))
+pub loop-x-preserved : goal.loop-x-preserved
+loop-x-preserved c = ahead_go _ _ _ _ _ c.loop-x.invariant c.next.ensures.steps _ _ c.in-Some.is c.wrong-bad.ensures
 
 pub returns : goal.returns
-returns c = search (fine_end)
+returns c = ahead_end _ _ _ _ _ c.loop-x.invariant c.next.ensures.steps c.in-None.is

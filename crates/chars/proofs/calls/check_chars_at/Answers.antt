@@ -2,8 +2,8 @@
 use Rattle.chars.proofs.Agreed.{located}
 use Rattle.chars.proofs.calls.check_chars_at.Goals as goal
 
-pub returns-in_default : goal.returns-in_default
-returns-in_default c = search located
+pub returns-in_err-admit_at : goal.returns-in_err-admit_at
+returns-in_err-admit_at c = search located
 
 pub returns : goal.returns
 returns c = search located

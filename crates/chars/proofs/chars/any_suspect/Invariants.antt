@@ -2,14 +2,11 @@
 -- Assumes nothing.
 use mathlib.Core.Path.{◌≡◌}
 use mathlib.Core.Bool.{false}
-use Prim.Native.Nat.{◌+◌, ◌-◌}
-use lib.ListN.{length, drop}
+use Prim.Native.Nat.{◌+◌}
+use lib.ListN.{drop}
 use Rattle.chars.specs.Bytes.{suspect}
 use Rattle.search.specs.Runs.{away}
 use Rattle.chars.proofs.chars.any_suspect.Given as goal
 
-abbrev pub invariant-loop-i : goal.invariant-loop-i
-invariant-loop-i l = l.found ≡ false → l.i + away suspect (drop l.i l.text) ≡ 0 + away suspect (drop 0 l.text)
-
-abbrev pub decreases-loop-i : goal.decreases-loop-i
-decreases-loop-i l = length l.text - l.i
+abbrev pub invariant-loop-b : goal.invariant-loop-b
+invariant-loop-b l = l.found ≡ false → l.b-index + away suspect (drop l.b-index l.text) ≡ 0 + away suspect (drop 0 l.text)

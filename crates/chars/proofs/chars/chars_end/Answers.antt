@@ -1,7 +1,9 @@
 -- What is left to show of `chars_end`. Assumes nothing.
-use Rattle.spec.specs.Reading.Wellformed.{check_chars}
-use Rattle.error.proofs.Laws.{stop_place}
+use Rattle.chars.proofs.Checks.{ended}
 use Rattle.chars.proofs.chars.chars_end.Goals as goal
 
-pub returns-then-any_suspect : goal.returns-then-any_suspect
-returns-then-any_suspect c = search (stop_place check_chars)
+pub returns-in-Ok : goal.returns-in-Ok
+returns-in-Ok c = search ended
+
+pub returns-in-Err : goal.returns-in-Err
+returns-in-Err c = search ended

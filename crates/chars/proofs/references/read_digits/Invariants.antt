@@ -6,7 +6,7 @@ use Rattle.chars.proofs.Digits.{DigitsLeft}
 use Rattle.chars.proofs.references.read_digits.Given as goal
 
 abbrev pub invariant-loop-i : goal.invariant-loop-i
-invariant-loop-i l = DigitsLeft l.hex l.s l.at l.i l.v
+invariant-loop-i l = DigitsLeft l.radix l.s l.at l.i l.v
 
 abbrev pub decreases-loop-i : goal.decreases-loop-i
 decreases-loop-i l = length l.s - l.i

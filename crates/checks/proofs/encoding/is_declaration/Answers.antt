@@ -1,15 +1,9 @@
 -- What is left to show of `is_declaration`. Assumes nothing.
-use Rattle.checks.proofs.Chaining.{beginning}
+use borrow.Author.Rules.{rules}
+use Rattle.checks.proofs.Chaining.{declared_is}
 use Rattle.checks.proofs.encoding.is_declaration.Goals as goal
 
-pub returns-then-not-at_keyword : goal.returns-then-not-at_keyword
-returns-then-not-at_keyword c = search beginning
-
-pub overflow_add-at : goal.overflow_add-at
-overflow_add-at c = search beginning
-
-pub returns-in_default : goal.returns-in_default
-returns-in_default c = search beginning
-
-pub returns : goal.returns
-returns c = search beginning
+pub returns-then-at_keyword : goal.returns-then-at_keyword
+returns-then-at_keyword c =
+    declared_is c.args.s.now c.args.at _ c.at_keyword.ensures c.code_point.result _ c.is_some_and.result c.if-at_keyword.true c.code_point.ensures
+    c.is_some_and.ensures (λ p q. search rules)

@@ -5,11 +5,5 @@ use Rattle.classes.proofs.appendix_b.is_letter.Goals as goal
 pub returns-then-is_common : goal.returns-then-is_common
 returns-then-is_common c = search classes
 
-pub returns-then-c-gt65535 : goal.returns-then-c-gt65535
-returns-then-c-gt65535 c = search classes
-
-pub returns-then-is_base_char : goal.returns-then-is_base_char
-returns-then-is_base_char c = search classes
-
-pub returns : goal.returns
-returns c = search classes
+pub returns-else-is_common : goal.returns-else-is_common
+returns-else-is_common c = search classes

@@ -1,25 +1,22 @@
 -- What is left to show of `parse_external_id`. Assumes nothing.
 use Rattle.spec.specs.Reading.Readers.{on}
 use Rattle.spec.specs.Reading.Dtd.{parse_external_id}
+use Rattle.error.proofs.Passing.{handed_up}
 use Rattle.cursor.proofs.Reading.{reading}
 use Rattle.cursor.proofs.literals.parse_external_id.Goals as goal
 
-pub returns-in-At : goal.returns-in-At
-unfolding parse_external_id on
-returns-in-At c = search reading
+pub returns-in_err-i : goal.returns-in_err-i
+unfolding on parse_external_id
+returns-in_err-i c = handed_up _ _ _ _ _ c.in_err-i.is c.branch-i.ensures c.from_residual.ensures.1 (search (reading, c.in_err-i.was))
 
-pub returns-in_default-public : goal.returns-in_default-public
-unfolding parse_external_id on
-returns-in_default-public c = search reading
+pub returns-in_err-j : goal.returns-in_err-j
+unfolding on parse_external_id
+returns-in_err-j c = handed_up _ _ _ _ _ c.in_err-j.is c.branch-j.ensures c.from_residual-in_err-j.ensures.1 (search (reading, c.in_ok-i.was, c.in_err-j.was))
 
-pub returns-in_default-r : goal.returns-in_default-r
-unfolding parse_external_id on
-returns-in_default-r c = search reading
-
-pub returns-in_default-id : goal.returns-in_default-id
-unfolding parse_external_id on
-returns-in_default-id c = search reading
+pub returns-in_err-e : goal.returns-in_err-e
+unfolding on parse_external_id
+returns-in_err-e c = handed_up _ _ _ _ _ c.in_err-e.is c.branch-e.ensures c.from_residual-in_err-e.ensures.1 (search (reading, c.in_ok-i.was, c.in_ok-j.was, c.in_err-e.was))
 
 pub returns : goal.returns
-unfolding parse_external_id on
-returns c = search reading
+unfolding on parse_external_id
+returns c = search (reading, c.in_ok-i.was, c.in_ok-j.was, c.in_ok-e.was)

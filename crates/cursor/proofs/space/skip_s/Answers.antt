@@ -1,12 +1,7 @@
 -- What is left to show of `skip_s`. Assumes nothing.
-use Rattle.cursor.proofs.Spaces.{spaces}
+use borrow.Author.Rules.{rules}
+use Rattle.spec.specs.Grammar.Characters.{space}
 use Rattle.cursor.proofs.space.skip_s.Goals as goal
 
-pub loop-i-preserved : goal.loop-i-preserved
-loop-i-preserved c = search spaces
-
-pub returns-else-is_space : goal.returns-else-is_space
-returns-else-is_space c = search spaces
-
 pub returns : goal.returns
-returns c = search spaces
+returns c = c.past_run.ensures space (λ b t l p. search rules)

@@ -1,28 +1,25 @@
 -- What is left to show of `parse_att_def`. Assumes nothing.
 use Rattle.spec.specs.Reading.Dtd.{parse_att_def}
+use Rattle.error.proofs.Passing.{handed_up}
 use Rattle.cursor.proofs.Reading.{reading}
 use Rattle.decls.proofs.attlists.parse_att_def.Goals as goal
 
-pub returns-in_default : goal.returns-in_default
-unfolding parse_att_def
-returns-in_default c = search reading
-
-pub returns-in_default-r : goal.returns-in_default-r
-unfolding parse_att_def
-returns-in_default-r c = search reading
-
-pub returns-in_default-r-2 : goal.returns-in_default-r-2
-unfolding parse_att_def
-returns-in_default-r-2 c = search reading
-
-pub returns-in_default-r-3 : goal.returns-in_default-r-3
-unfolding parse_att_def
-returns-in_default-r-3 c = search reading
-
-pub returns-in_default-r-4 : goal.returns-in_default-r-4
-unfolding parse_att_def
-returns-in_default-r-4 c = search reading
-
 pub returns : goal.returns
 unfolding parse_att_def
-returns c = search reading
+returns c = search (reading, c.in_ok-i.was, c.in_ok-j.was, c.in_ok-k.was, c.in_ok-l.was, c.in_ok-m.was)
+
+pub returns-in_err-j : goal.returns-in_err-j
+unfolding parse_att_def
+returns-in_err-j c = handed_up _ _ _ _ _ c.in_err-j.is c.branch-j.ensures c.from_residual-in_err-j.ensures.1 (search (reading, c.in_ok-i.was, c.in_err-j.was))
+
+pub returns-in_err-k : goal.returns-in_err-k
+unfolding parse_att_def
+returns-in_err-k c = handed_up _ _ _ _ _ c.in_err-k.is c.branch-k.ensures c.from_residual-in_err-k.ensures.1 (search (reading, c.in_ok-i.was, c.in_ok-j.was, c.in_err-k.was))
+
+pub returns-in_err-l : goal.returns-in_err-l
+unfolding parse_att_def
+returns-in_err-l c = handed_up _ _ _ _ _ c.in_err-l.is c.branch-l.ensures c.from_residual-in_err-l.ensures.1 (search (reading, c.in_ok-i.was, c.in_ok-j.was, c.in_ok-k.was, c.in_err-l.was))
+
+pub returns-in_err-m : goal.returns-in_err-m
+unfolding parse_att_def
+returns-in_err-m c = handed_up _ _ _ _ _ c.in_err-m.is c.branch-m.ensures c.from_residual-in_err-m.ensures.1 (search (reading, c.in_ok-i.was, c.in_ok-j.was, c.in_ok-k.was, c.in_ok-l.was, c.in_err-m.was))

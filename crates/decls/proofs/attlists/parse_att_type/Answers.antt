@@ -1,21 +1,16 @@
 -- What is left to show of `parse_att_type`. Assumes nothing.
+use borrow.Author.Rules.{rules}
 use Rattle.spec.specs.Reading.Readers.{on}
 use Rattle.spec.specs.Reading.Dtd.{parse_att_type}
-use Rattle.decls.proofs.Keywords.{typing}
+use Rattle.cursor.proofs.Reading.{reading}
+use Rattle.error.proofs.Laws.{ate_not}
+use Rattle.decls.proofs.Otherwise.{among_else}
 use Rattle.decls.proofs.attlists.parse_att_type.Goals as goal
 
-pub returns-in-At : goal.returns-in-At
-unfolding parse_att_type on
-returns-in-At c = search typing
-
-pub returns-in-At-r : goal.returns-in-At-r
-unfolding parse_att_type on
-returns-in-At-r c = search typing
-
-pub returns-then-at_keyword : goal.returns-then-at_keyword
-unfolding parse_att_type on
-returns-then-at_keyword c = search typing
+pub returns-in-Ok : goal.returns-in-Ok
+unfolding on parse_att_type
+returns-in-Ok c = search reading
 
 pub returns : goal.returns
-unfolding parse_att_type on
-returns c = search typing
+unfolding on parse_att_type
+returns c = ate_not _ _ _ _ _ c.eat_str.ensures _ _ _ _ c.in_default.is (among_else _ _ _ _ _ _ c.parse_tokenized.ensures (search rules))

@@ -3,10 +3,6 @@ use Rattle.spec.specs.Reading.Readers.{on}
 use Rattle.cursor.proofs.Reading.{reading}
 use Rattle.decls.proofs.attlists.parse_fixed.Goals as goal
 
-pub returns-in_default : goal.returns-in_default
-unfolding on
-returns-in_default c = search reading
-
 pub returns : goal.returns
 unfolding on
 returns c = search reading

@@ -3,10 +3,6 @@ use Rattle.spec.specs.Reading.Readers.{on}
 use Rattle.cursor.proofs.Reading.{reading}
 use Rattle.decls.proofs.entities.parse_entity.Goals as goal
 
-pub returns-in-At : goal.returns-in-At
-unfolding on
-returns-in-At c = search reading
-
 pub returns : goal.returns
 unfolding on
 returns c = search reading

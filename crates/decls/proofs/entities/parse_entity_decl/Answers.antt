@@ -1,16 +1,13 @@
 -- What is left to show of `parse_entity_decl`. Assumes nothing.
 use Rattle.spec.specs.Reading.Dtd.{parse_entity_decl}
+use Rattle.error.proofs.Passing.{handed_up}
 use Rattle.cursor.proofs.Reading.{reading}
 use Rattle.decls.proofs.entities.parse_entity_decl.Goals as goal
 
-pub returns-in_default : goal.returns-in_default
+pub returns-in_err-j : goal.returns-in_err-j
 unfolding parse_entity_decl
-returns-in_default c = search reading
-
-pub returns-in_default-r : goal.returns-in_default-r
-unfolding parse_entity_decl
-returns-in_default-r c = search reading
+returns-in_err-j c = handed_up _ _ _ _ _ c.in_err-j.is c.branch-j.ensures c.from_residual-in_err-j.ensures.1 (search (reading, c.in_ok-i.was, c.in_err-j.was))
 
 pub returns : goal.returns
 unfolding parse_entity_decl
-returns c = search reading
+returns c = search (reading, c.in_ok-i.was, c.in_ok-j.was)

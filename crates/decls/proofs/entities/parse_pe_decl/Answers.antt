@@ -1,15 +1,13 @@
 -- What is left to show of `parse_pe_decl`. Assumes nothing.
+use Rattle.error.proofs.Passing.{handed_up}
 use Rattle.cursor.proofs.Reading.{reading}
 use Rattle.decls.proofs.entities.parse_pe_decl.Goals as goal
 
-pub returns-in_default : goal.returns-in_default
-returns-in_default c = search reading
+pub returns-in_err-j : goal.returns-in_err-j
+returns-in_err-j c = handed_up _ _ _ _ _ c.in_err-j.is c.branch-j.ensures c.from_residual-in_err-j.ensures.1 (search (reading, c.in_ok-i.was, c.in_err-j.was))
 
-pub returns-in_default-r : goal.returns-in_default-r
-returns-in_default-r c = search reading
-
-pub returns-in_default-r-2 : goal.returns-in_default-r-2
-returns-in_default-r-2 c = search reading
+pub returns-in_err-k : goal.returns-in_err-k
+returns-in_err-k c = handed_up _ _ _ _ _ c.in_err-k.is c.branch-k.ensures c.from_residual-in_err-k.ensures.1 (search (reading, c.in_ok-i.was, c.in_ok-j.was, c.in_err-k.was))
 
 pub returns : goal.returns
-returns c = search reading
+returns c = search (reading, c.in_ok-i.was, c.in_ok-j.was, c.in_ok-k.was)

@@ -3,22 +3,10 @@ use Rattle.spec.specs.Reading.Dtd.{after}
 use Rattle.decls.proofs.Bars.{listing}
 use Rattle.decls.proofs.lists.parse_others.Goals as goal
 
-pub overflow_add-i : goal.overflow_add-i
+pub loop-from-smaller : goal.loop-from-smaller
 unfolding after
-overflow_add-i c = search listing
+loop-from-smaller g c = search (listing, c.in_ok-to.was)
 
-pub returns-in_default : goal.returns-in_default
+pub loop-from-preserved : goal.loop-from-preserved
 unfolding after
-returns-in_default c = search listing
-
-pub loop-names-smaller : goal.loop-names-smaller
-unfolding after
-loop-names-smaller c = search listing
-
-pub loop-names-preserved : goal.loop-names-preserved
-unfolding after
-loop-names-preserved c = search listing
-
-pub returns : goal.returns
-unfolding after
-returns c = search listing
+loop-from-preserved g c = search (listing, c.in_ok-to.was)

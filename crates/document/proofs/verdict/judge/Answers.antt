@@ -1,12 +1,8 @@
 -- What is left to show of `judge`. Assumes nothing.
-use Rattle.document.proofs.Judging.{judging}
+use Rattle.document.proofs.Judging.{mapped_ok, judge_accepted}
 use Rattle.document.proofs.verdict.judge.Goals as goal
 
-pub returns-in-Refused : goal.returns-in-Refused
-returns-in-Refused c = search judging
-
-pub returns-in-At : goal.returns-in-At
-returns-in-At c = search judging
-
-pub returns-in-No : goal.returns-in-No
-returns-in-No c = search judging
+pub returns : goal.returns
+returns c =
+    judge_accepted _ _ _ c.read_prolog.ensures _ (mapped_ok _ _ _ _ c.map_err.ensures.cases c.in_ok-opening.was) _ c.read_tag.ensures _
+    (mapped_ok _ _ _ _ c.map_err-2.ensures.cases c.in_ok-map_err.was)

@@ -1,8 +1,9 @@
 -- What is left to show of `check_doctype`. Assumes nothing.
-use Rattle.classes.specs.Classes.{dialect}
-use borrow.Author.Rules.{rules}
+use Rattle.dtd.proofs.Whole.{whole}
 use Rattle.dtd.proofs.doctype.check_doctype.Goals as goal
 
+pub returns-in_err-admit : goal.returns-in_err-admit
+returns-in_err-admit c = search whole
+
 pub returns : goal.returns
-unfolding dialect
-returns c = search rules
+returns c = search whole

@@ -1,8 +1,9 @@
 -- What is left to show of `check_doctype_at`. Assumes nothing.
-use Rattle.classes.specs.Classes.{dialect}
-use borrow.Author.Rules.{rules}
+use Rattle.dtd.proofs.Whole.{located}
 use Rattle.dtd.proofs.doctype.check_doctype_at.Goals as goal
 
+pub returns-in_err-admit_at : goal.returns-in_err-admit_at
+returns-in_err-admit_at c = search located
+
 pub returns : goal.returns
-unfolding dialect
-returns c = search rules
+returns c = search located

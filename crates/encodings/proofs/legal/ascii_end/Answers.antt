@@ -1,12 +1,13 @@
 -- What is left to show of `ascii_end`. Assumes nothing.
-use Rattle.encodings.proofs.Reached.{running}
+use borrow.Author.Rules.{rules}
+use Rattle.std.proofs.lemmas.Iterator.{YieldsList-from_slice}
+use Rattle.std.proofs.lemmas.Iterator.Search.{position_from_yields_List}
+use Rattle.spec.specs.Grammar.Encodings.{in_bytes, class_of}
+use Rattle.encodings.proofs.Reached.{run_is}
+use mathlib.Core.Path.{◌∙◌}
+use mathlib.Core.Bool.{not}
 use Rattle.encodings.proofs.legal.ascii_end.Goals as goal
 
-pub returns-then-not-is_ascii_char : goal.returns-then-not-is_ascii_char
-returns-then-not-is_ascii_char c = search running
-
-pub loop-i-preserved : goal.loop-i-preserved
-loop-i-preserved c = search running
-
 pub returns : goal.returns
-returns c = search running
+returns c =
+    c.unwrap_or.ensures ∙ run_is (class_of in_bytes) _ _ (position_from_yields_List (λ b. not (class_of in_bytes b)) _ _ _ c.position.ensures.ran (YieldsList-from_slice c.args.text.now cc) (λ x b q k. search rules))

@@ -1,18 +1,7 @@
 -- What is left to show of `coding_in`. Assumes nothing.
-use Rattle.encodings.proofs.Finding.{standing}
+use borrow.Author.Rules.{rules}
+use Rattle.encodings.proofs.Finding.{coding_by}
 use Rattle.encodings.proofs.xmldecl.coding_in.Goals as goal
 
-pub returns-in_default : goal.returns-in_default
-returns-in_default c = search standing
-
-pub returns-then-end-start : goal.returns-then-end-start
-returns-then-end-start c = search standing
-
-pub returns-then-x-start : goal.returns-then-x-start
-returns-then-x-start c = search standing
-
-pub returns-then-x-end : goal.returns-then-x-end
-returns-then-x-end c = search standing
-
 pub returns : goal.returns
-returns c = search standing
+returns c = coding_by c.args.x.now c.args.name _ _ c.get.result _ c.map_or.result c.in-Some.is c.min.ensures c.get.ensures.lookup c.map_or.ensures (λ p q. search rules)

@@ -8,8 +8,8 @@ use Rattle.classes.specs.Classes.{dialect}
 use Rattle.entries.specs.Walk.{unread_from}
 use Rattle.entries.proofs.count.count_from.Given as goal
 
-abbrev pub invariant-loop-past : goal.invariant-loop-past
-invariant-loop-past l = (l.n + length (unread_from (dialect l.names) l.s l.pe l.i) ≡ length (unread_from (dialect l.names) l.s false l.from)) × (l.n ≤ l.i)
+abbrev pub invariant-loop-u : goal.invariant-loop-u
+invariant-loop-u l = (l.n + length (unread_from (dialect l.names) l.s l.pe l.i) ≡ length (unread_from (dialect l.names) l.s false l.from)) × (l.n ≤ l.i)
 
-abbrev pub decreases-loop-past : goal.decreases-loop-past
-decreases-loop-past l = length l.s - l.i
+abbrev pub decreases-loop-u : goal.decreases-loop-u
+decreases-loop-u l = length l.s - l.i

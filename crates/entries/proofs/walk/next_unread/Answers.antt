@@ -11,8 +11,5 @@ is_unread-requires c = search walking
 pub returns-then-is_unread : goal.returns-then-is_unread
 returns-then-is_unread c = search walking
 
-pub loop-j-smaller : goal.loop-j-smaller
-loop-j-smaller c = search walking
-
 pub loop-j-preserved : goal.loop-j-preserved
 loop-j-preserved c = search walking

@@ -2,14 +2,14 @@
 use Rattle.moxkeldi.proofs.Bounding.{bounding}
 use Rattle.moxkeldi.proofs.answers.moxkeldi_scan.Goals as goal
 
-pub returns-in-NotOpened : goal.returns-in-NotOpened
-returns-in-NotOpened c = search bounding
+pub returns-in-Ok-NotOpened : goal.returns-in-Ok-NotOpened
+returns-in-Ok-NotOpened c = search bounding
 
-pub returns-in-NotClosed : goal.returns-in-NotClosed
-returns-in-NotClosed c = search bounding
+pub returns-in-Ok-NotClosed : goal.returns-in-Ok-NotClosed
+returns-in-Ok-NotClosed c = search bounding
 
-pub returns-in-Closed : goal.returns-in-Closed
-returns-in-Closed c = search bounding
+pub returns-in-Ok-Closed : goal.returns-in-Ok-Closed
+returns-in-Ok-Closed c = search bounding
 
-pub returns-in-Refused : goal.returns-in-Refused
-returns-in-Refused c = search bounding
+pub returns-in-Err : goal.returns-in-Err
+returns-in-Err c = search bounding

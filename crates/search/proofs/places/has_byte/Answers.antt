@@ -1,9 +1,6 @@
 -- What is left to show of `has_byte`. Assumes nothing.
-use Rattle.search.proofs.Finding.{finding}
+use Rattle.search.proofs.Finding.{has}
 use Rattle.search.proofs.places.has_byte.Goals as goal
 
-pub returns-in-Here : goal.returns-in-Here
-returns-in-Here c = search finding
-
-pub returns-in-Nowhere : goal.returns-in-Nowhere
-returns-in-Nowhere c = search finding
+pub returns : goal.returns
+returns c = has _ _ _ c.find_byte.ensures _ c.is_some.ensures

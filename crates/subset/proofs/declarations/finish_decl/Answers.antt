@@ -1,36 +1,16 @@
 -- What is left to show of `finish_decl`. Assumes nothing.
+use Rattle.error.proofs.Passing.{handed_up}
 use Rattle.subset.proofs.Finishing.{finishing}
 use Rattle.subset.proofs.declarations.finish_decl.Goals as goal
 
-pub returns-in_default : goal.returns-in_default
-returns-in_default c = search finishing
-
-pub overflow_add-result : goal.overflow_add-result
-overflow_add-result c = search finishing
-
-pub returns-then-pe_used : goal.returns-then-pe_used
-returns-then-pe_used c = search finishing
-
-pub slice_bounds-has_pe_reference-count : goal.slice_bounds-has_pe_reference-count
-slice_bounds-has_pe_reference-count c = search finishing
-
-pub slice_bounds-has_pe_reference-start : goal.slice_bounds-has_pe_reference-start
-slice_bounds-has_pe_reference-start c = search finishing
-
 pub slice_bounds-has_pe_reference-end : goal.slice_bounds-has_pe_reference-end
-slice_bounds-has_pe_reference-end c = search finishing
+slice_bounds-has_pe_reference-end g c = search (finishing, c.in_ok-end.was)
 
-pub overflow_add-result-then-has_pe_reference : goal.overflow_add-result-then-has_pe_reference
-overflow_add-result-then-has_pe_reference c = search finishing
+pub slice_bounds-read-end : goal.slice_bounds-read-end
+slice_bounds-read-end g c = search (finishing, c.in_ok-end.was)
 
-pub returns-then-has_pe_reference : goal.returns-then-has_pe_reference
-returns-then-has_pe_reference c = search finishing
-
-pub slice_bounds-parse_body-end : goal.slice_bounds-parse_body-end
-slice_bounds-parse_body-end c = search finishing
-
-pub returns-in_default-r : goal.returns-in_default-r
-returns-in_default-r c = search finishing
+pub returns-in_err-read : goal.returns-in_err-read
+returns-in_err-read g c = handed_up _ _ _ _ _ c.in_err-read.is c.branch-read.ensures c.from_residual-in_err-read.ensures.1 (search (finishing, c.in_ok-end.was, c.in_err-read.was))
 
 pub returns : goal.returns
-returns c = search finishing
+returns g c = search (finishing, c.in_ok-end.was, c.in_ok-read.was)

@@ -5,8 +5,8 @@ use lib.ListN.{length}
 use Rattle.utf8.specs.Passed.{Passed}
 use Rattle.utf8.proofs.blocks.skip_blocks.Given as goal
 
-abbrev pub invariant-loop-i : goal.invariant-loop-i
-invariant-loop-i l = Passed l.s l.at l.i
+abbrev pub invariant-loop-end : goal.invariant-loop-end
+invariant-loop-end l = Passed l.s l.at l.i
 
-abbrev pub decreases-loop-i : goal.decreases-loop-i
-decreases-loop-i l = length l.s - l.i
+abbrev pub decreases-loop-end : goal.decreases-loop-end
+decreases-loop-end l = length l.s - l.i

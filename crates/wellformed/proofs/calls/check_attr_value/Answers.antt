@@ -2,8 +2,8 @@
 use Rattle.wellformed.proofs.Agreed.{agreed}
 use Rattle.wellformed.proofs.calls.check_attr_value.Goals as goal
 
-pub returns-then-n-ne-ACCEPTED : goal.returns-then-n-ne-ACCEPTED
-returns-then-n-ne-ACCEPTED c = search agreed
+pub returns-in_err-admit : goal.returns-in_err-admit
+returns-in_err-admit c = search agreed
 
 pub returns : goal.returns
 returns c = search agreed

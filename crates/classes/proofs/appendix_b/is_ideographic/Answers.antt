@@ -1,8 +1,0 @@
--- What is left to show of `is_ideographic`. Assumes nothing.
-use Rattle.spec.specs.Grammar.Ranges.{ascending}
-use Rattle.classes.proofs.RangeLaws.{tables}
-use Rattle.classes.proofs.appendix_b.is_ideographic.Goals as goal
-
-pub in_ranges-requires : goal.in_ranges-requires
-unfolding ascending
-in_ranges-requires c = search tables

@@ -1,9 +1,0 @@
--- The buffer's room falls with each turn, since a read that gives nothing ends the loop.
-use Rattle.std.proofs.Common.{◌-◌, ◌≤◌, length}
-use Rattle.command.proofs.file.read_full.Given as goal
-
-abbrev pub invariant-loop-n : goal.invariant-loop-n
-invariant-loop-n g l = l.n ≤ length l.buffer
-
-abbrev pub decreases-loop-n : goal.decreases-loop-n
-decreases-loop-n g l = length l.buffer - l.n

@@ -1,7 +1,0 @@
--- `command::room` meets its contract: a law of `replicate`, so that nothing computes as many elements. Assumes nothing.
-use Prim.Native.Nat.{ℕ}
-use lib.ListN.{length-replicate}
-use Rattle.command.proofs.room.Goals as goal
-
-pub returns : goal.returns
-returns c = length-replicate {0} {A = ℕ} 2097153 0

@@ -1,0 +1,77 @@
+// The check of one file after another.
+use crate::console::{Failure, Output};
+use crate::files::{HELD, Source};
+use crate::options::Manner;
+use crate::report::{Document, NotRead, Report};
+use crate::verdict::judge;
+use std::alloc::AllocError;
+
+// The exit status: all files accepted, one refused, or one that could not be read (also wrong usage). The highest counts.
+#[derive(Clone, Copy, PartialEq, Eq, PartialOrd, Ord)]
+pub enum Status {
+    Good,
+    Refused,
+    Failed,
+}
+
+// What the check of each file uses. Its buffers are made once, and not for each file.
+#[derive(Drop)]
+pub struct Checker<'a> {
+    rt: &'a HostRuntime,
+    manner: Manner,
+    held: Vec<u8>,
+    output: Output<'a>,
+}
+
+impl<'a> Checker<'a> {
+    pub fn new(rt: &'a HostRuntime, manner: Manner) -> Result<Checker<'a>, AllocError> {
+        Ok(Checker {
+            rt,
+            manner,
+            held: Vec::with_capacity(rt.alloc(), HELD + 1)?,
+            output: Output::new(rt)?,
+        })
+    }
+
+    pub fn check_all(&mut self, sources: &[Source]) -> Status {
+        let mut worst = Status::Good;
+        for source in sources {
+            let status = match self.check(source) {
+                Ok(status) => status,
+                Err(failure) => {
+                    failure.tell(self.rt, source);
+                    Status::Failed
+                }
+            };
+            worst = worst.max(status);
+        }
+        worst
+    }
+
+    fn check(&mut self, source: &Source) -> Result<Status, Failure> {
+        let name = source.name()?;
+        source.read(self.rt, &mut self.held)?;
+        let whole = self.held.len() <= HELD;
+        let text = self.held.get(..HELD).unwrap_or(self.held.as_slice());
+        let document = Document::new(name, text);
+        let verdict = judge(text, whole, self.manner.names);
+        let status = match verdict {
+            Ok(_) => Status::Good,
+            Err(_) => Status::Refused,
+        };
+        if self.manner.quiet {
+            return Ok(status);
+        }
+        self.output.say(Report { document, verdict })?;
+        if self.manner.verbose
+            && let Ok(accepted) = verdict
+            && let Some(doctype) = accepted.doctype
+            && doctype.unread > 0
+        {
+            for at in doctype.unread_places(document.text, self.manner.names) {
+                self.output.say(NotRead { document, at })?;
+            }
+        }
+        Ok(status)
+    }
+}

@@ -1,8 +1,0 @@
--- What is left to show of `check_doctype_fifth_at`. Assumes nothing.
-use Rattle.classes.specs.Classes.{dialect}
-use borrow.Author.Rules.{rules}
-use Rattle.dtd.proofs.doctype.check_doctype_fifth_at.Goals as goal
-
-pub returns : goal.returns
-unfolding dialect
-returns c = search rules

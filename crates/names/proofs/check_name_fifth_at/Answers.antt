@@ -1,8 +1,0 @@
--- What is left to show of `check_name_fifth_at`. Assumes nothing.
-use Rattle.classes.specs.Classes.{dialect}
-use borrow.Author.Rules.{rules}
-use Rattle.names.proofs.check_name_fifth_at.Goals as goal
-
-pub returns : goal.returns
-unfolding dialect
-returns c = search rules
