@@ -1,7 +1,7 @@
 // The scan of a front part, and the two numbers in front of it.
 ghost use Rattle.std.specs.Prelude.{◌≡◌};
 ghost use Rattle.spec.specs.Reading.Scan as Rule;
-ghost use Rattle.scan.specs.Answers.{gives, scan_of, Scans};
+ghost use Rattle.scan.specs.Answers.{scan_of, Scans};
 
 use crate::subset::{internal_subset_end, subset_open};
 use error::Refusal;

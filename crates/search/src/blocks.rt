@@ -1,5 +1,5 @@
 // Blocks without a byte of a class, which are passed at once: most of a comment, and of a long literal.
-ghost use Rattle.std.specs.Prelude.{◌≡◌, Bool, ℕ};
+ghost use Rattle.std.specs.Prelude.{Bool, ℕ};
 ghost use Rattle.search.specs.Runs.{Skipped, Block};
 
 // Few enough bytes that a literal has some blocks without its quote mark, and enough for vector code.

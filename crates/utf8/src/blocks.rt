@@ -1,5 +1,5 @@
 // Passing over the ASCII of a text, a block at a time: most of a text, and UTF-8 as it stands.
-ghost use Rattle.std.specs.Prelude.{◌≡◌, ◌<◌, ◌≤◌, length, IfSome};
+ghost use Rattle.std.specs.Prelude.{◌<◌, ◌≤◌, length, IfSome};
 ghost use Rattle.utf8.specs.Passed.{Passed, Near};
 
 use crate::{byte_at, high, is_tail};
@@ -25,7 +25,8 @@ fn past_block(s: &[u8], at: usize) -> Option<usize>
     Some(at + BLOCK)
 }
 
-// The place after all such blocks from `at` on.
+// The place after all such blocks from `at` on. (The loop of crate `search` over its trait `Blocks`, which this crate could stand on, is no
+// substitute: the trait's blocks have 16 bytes and these 64, and what is passed here is said by UTF-8, not by a class of bytes.)
 #[tactic(auto, using(crate::proofs::Parts::skipping))]
 pub fn skip_blocks(s: &[u8], at: usize) -> usize
     ensures { Passed s.now at result }

@@ -3,7 +3,7 @@
 
 mod blocks;
 
-ghost use Rattle.std.specs.Prelude.{◌≡◌, true, false, ◌||◌, ◌+◌, ◌*◌, ◌%◌, ◌≤◌, drop, get_or, length};
+ghost use Rattle.std.specs.Prelude.{◌≡◌, true, false, ◌||◌, ◌+◌, ◌*◌, ◌%◌, drop, get_or};
 ghost use Rattle.spec.specs.Reading.Utf8.{tail, two, three, four, decode4, decode1};
 ghost use Rattle.spec.specs.Reading.Readers.{stop_of};
 ghost use Rattle.spec.specs.Reading.Source.{utf8};
