@@ -1,44 +1,23 @@
 -- Digits of a character reference, one by one, with a value that stops. Assumes nothing.
 use mathlib.Core.Path.{◌≡◌, refl, sym, ◌∙◌}
 use mathlib.Core.Logic.{◌⊎◌, inl, inr}
-use mathlib.Core.Bool.{Bool, true, false, ◌&&◌, ◌||◌}
+use mathlib.Core.Bool.{Bool, true, false}
 use mathlib.Core.List.{List, [], ◌∷◌}
-use Prim.Native.Nat.{ℕ, ◌+◌, ◌-◌, ◌*◌, ◌<◌, ◌≤◌, min}
+use Prim.Native.Nat.{ℕ, ◌+◌, ◌*◌, ◌<◌, ◌≤◌, min, max}
 use native.Mathlib.Omega.{arith}
 use borrow.Author.Rules.{rules}
 use borrow.Author.Tests.{not-true, not-false}
 use lib.Dec.{leb}
 use lib.ListN.{length, get_or, take, drop}
-use Rattle.spec.specs.Basics.{within}
 use Rattle.spec.specs.Grammar.Characters.{xml_char}
 use Rattle.spec.specs.Grammar.References.{digit_value, value_on}
 use Rattle.spec.specs.Reading.Readers.{run}
-use Rattle.spec.proofs.Base.Tests.{decide, leb_true, leb_false, eqb_no, within_lo, within_high}
+use Rattle.spec.proofs.Base.Tests.{decide, leb_true, leb_false, eqb_no, within_high}
 use Rattle.spec.proofs.Base.Places.{drop_at, drop_end}
 use Rattle.chars.specs.Digits.{base, digit_of, past_points, DigitsRead}
 use Rattle.chars.specs.declared.references.Radix.{Radix}
 use Rattle.chars.specs.declared.references.Radix.TheVariants.{Decimal, Hex}
-use Rattle.search.proofs.Runs.{run_end, run_stop, run_go}
-
-module _ (b : ℕ) where
-  pub value_decimal : within 0x30 0x39 b ≡ true → b - 0x30 ≡ digit_value b
-  unfolding digit_value
-  value_decimal e = rw e
-
-  pub upper_above : within 0x41 0x46 b ≡ true → 0x37 ≤ b
-  upper_above e = let h = within_lo 0x41 0x46 b e in omega arith
-
-  module _ (d : within 0x30 0x39 b ≡ false) where
-    pub value_upper : within 0x41 0x46 b ≡ true → b - 0x37 ≡ digit_value b
-    unfolding digit_value
-    value_upper e = rw (d, e)
-
-    pub value_lower : within 0x41 0x46 b ≡ false → b - 0x57 ≡ digit_value b
-    unfolding digit_value
-    value_lower e = rw (d, e)
-
-    pub value_none : within 0x41 0x46 b ≡ false → b < 0x57 → 0 ≡ digit_value b
-    value_none e h = let z : b - 0x57 ≡ digit_value b = value_lower e in omega arith
+use Rattle.search.proofs.Runs.{run_over, run_stop, run_go}
 
 -- one digit more, where the value has passed all code points or not
 pub add_stopped : (radix : Radix) (v d : ℕ) → past_points ≤ v → min v past_points ≡ min (v * base radix + d) past_points
@@ -71,9 +50,9 @@ pub digits_all : (radix : Radix) (s : List ℕ) (at : ℕ) → DigitsLeft radix 
 digits_all radix s at = record { ends = refl; value_is = refl }
 
 module _ (radix : Radix) (s : List ℕ) (at i v : ℕ) (inv : DigitsLeft radix s at i v) where
-  pub digits_end : (x : ℕ) → length s ≤ i → x ≡ min v past_points → DigitsRead radix s at i x
+  pub digits_end : (e x : ℕ) → at ≤ i → (at ≤ length s → i ≤ length s) → length s ≤ i → e ≡ max at (length s) → x ≡ min v past_points → DigitsRead radix s at e x
   unfolding value_on run
-  digits_end x h k = record { ends = run_end (digit_of radix) s at i inv.ends h; value = k ∙ (rw (drop_end s i h) at inv.value_is) }
+  digits_end e x g f h m k = record { ends = run_over (digit_of radix) s at i inv.ends e g f h m; value = k ∙ (rw (drop_end s i h) at inv.value_is) }
 
   pub digits_stop : (t : Bool) (x : ℕ) → i < length s → t ≡ digit_of radix (get_or s i 0) → t ≡ false → x ≡ min v past_points → DigitsRead radix s at i x
   unfolding value_on run
@@ -101,8 +80,6 @@ char_stopped n = go (decide (leb past_points n))
     go : (leb past_points n ≡ true) ⊎ (leb past_points n ≡ false) → xml_char (min n past_points) ≡ xml_char n
     go (inl e) = let h = leb_true past_points n e in beyond (min n past_points) (omega arith) ∙ sym (beyond n h)
     go (inr e) = let h = leb_false past_points n e in let z : min n past_points ≡ n = omega arith in rw z
-
-pub ruleset digit_values = (value_decimal, value_upper, value_lower, value_none, within_lo, upper_above, leb_false, not-true, rules)
 
 pub ruleset digit_sums = (add_stopped, rules)
 

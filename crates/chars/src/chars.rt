@@ -7,11 +7,11 @@ ghost use Rattle.error.specs.Read.{said, read, code};
 ghost use Rattle.chars.specs.Bytes.{suspect};
 ghost use Rattle.chars.specs.Rules.{steady_legal};
 
-use crate::rules::{Rule, walk};
+use crate::rules::{Rule, admitted, walk};
 use error::{Answer, Refusal, Verdict};
 use search::at_keyword;
 
-// Production 2, Char.
+// Production 2, Char. By `matches!` a walk over legal characters is 6 percent slower.
 #[tactic(auto, using(crate::proofs::Bytes::bytes))]
 pub fn is_xml_char(c: u32) -> bool
     ensures { result ≡ xml_char c }
@@ -81,7 +81,7 @@ fn any_suspect(text: &[u8]) -> bool
 }
 
 // check_chars looks at suspect bytes alone. It has no mark of its own: 0xEF is suspect anyway.
-struct Legal;
+pub struct Legal;
 
 impl Rule for Legal {
     ghost MARK = { 0xEF };
@@ -97,20 +97,13 @@ impl Rule for Legal {
     }
 }
 
-// The pass that decides where a suspect byte stands.
+// check_chars on any bytes, without the two refusals that come first. The walk decides where a suspect byte stands.
 #[tactic(auto, unfolding(spec::specs::Reading::Wellformed::check_chars))]
-pub fn walk_chars(text: &[u8]) -> Answer
-    ensures { said result ≡ read check_chars text.now 0 }
-{
-    walk::<Legal>(text, 0)
-}
-
-// check_chars on any bytes, without the two refusals that come first.
 pub fn chars_admitted(text: &[u8]) -> Verdict
     ensures { code result ≡ number_of (check_chars text.now) }
 {
     if any_suspect(text) {
-        walk_chars(text)?;
+        return admitted::<Legal>(text);
     }
     Ok(())
 }
@@ -122,7 +115,7 @@ pub fn chars_end(text: &[u8]) -> usize
     if !any_suspect(text) {
         return text.len();
     }
-    match walk_chars(text) {
+    match walk::<Legal>(text, 0) {
         Ok(end) => end,
         Err(fault) => fault.place,
     }

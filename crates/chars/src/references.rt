@@ -1,16 +1,15 @@
 // Character references: check_char_ref_at and check_char_refs of wellformed.rs (production 66).
 ghost use Rattle.std.specs.Prelude.{◌≡◌, ◌+◌, ◌*◌, min};
 ghost use Rattle.spec.specs.Grammar.References.{digit_value};
-ghost use Rattle.spec.specs.Reading.Readers.{number_of};
 ghost use Rattle.spec.specs.Reading.Wellformed.{reference, char_ref, ref_or_byte, check_char_refs};
-ghost use Rattle.error.specs.Read.{said, read, code};
+ghost use Rattle.error.specs.Read.{said, read};
 ghost use Rattle.chars.specs.Digits.{base, digit_of, past_points, DigitsRead};
 ghost use Rattle.chars.specs.References.{reference_said};
 ghost use Rattle.chars.specs.Rules.{steady_refs};
 
 use crate::chars::{is_xml_char, next_byte};
 use crate::rules::{Rule, walk};
-use error::{Answer, Refusal, Verdict};
+use error::{Answer, Refusal};
 use search::at_keyword;
 
 // The first number past all code points.
@@ -30,7 +29,6 @@ struct Digits {
     value: u32,
 }
 
-#[tactic(auto, using(crate::proofs::Digits::digit_values))]
 fn is_digit(radix: Radix, b: u8) -> bool
     ensures { result ≡ digit_of radix b }
 {
@@ -40,21 +38,20 @@ fn is_digit(radix: Radix, b: u8) -> bool
     }
 }
 
-// What a digit stands for; the third test is for what is no digit, so that every byte has an answer.
-#[tactic(auto, using(crate::proofs::Digits::digit_values))]
+// What a digit stands for; what is no digit has a value too, so that every byte has one. (By the library's `to_digit`, which was tried, a
+// text of references takes 0.81 of the Rust's time where this takes 0.49, and the bar of speed is 0.8. By a match, with 0 to 9 as a pattern
+// too, such a text takes 6 to 13 percent longer.)
+#[tactic(auto, unfolding(spec::specs::Grammar::References::digit_value))]
 fn digit_value(b: u8) -> u8
     ensures { result ≡ digit_value b }
 {
     if b.is_ascii_digit() {
         return b - b'0';
     }
-    if (0x41 <= b) & (b <= 0x46) {
+    if matches!(b, b'A'..=b'F') {
         return b - 0x37;
     }
-    if b < 0x57 {
-        return 0;
-    }
-    b - 0x57
+    b.saturating_sub(0x57)
 }
 
 // One digit more; a value past all code points stays there, so that no number of digits wraps it.
@@ -78,27 +75,23 @@ fn stop(n: u32) -> u32
     n.min(PAST_POINTS)
 }
 
-// The digits that stand first, any number of them, in one pass. (A `for` over places has no end to answer where `at` is past the text.)
+// The digits that stand first, any number of them, in one pass.
 #[tactic(auto, using(crate::proofs::Digits::digit_runs))]
 fn read_digits(s: &[u8], at: usize, radix: Radix) -> Digits
     ensures { DigitsRead radix s.now at result.end result.value }
 {
-    let mut i = at;
     let mut v: u32 = 0;
-    while i < s.len() {
-        let b = s[i];
-        if !is_digit(radix, b) {
+    for i in at..s.len() {
+        if !is_digit(radix, s[i]) {
             return Digits {
                 end: i,
                 value: stop(v),
             };
         }
-        let d = digit_value(b);
-        v = add_digit(radix, v, d);
-        i += 1;
+        v = add_digit(radix, v, digit_value(s[i]));
     }
     Digits {
-        end: i,
+        end: at.max(s.len()),
         value: stop(v),
     }
 }
@@ -158,7 +151,7 @@ fn ref_or_byte(s: &[u8], i: usize) -> Answer
 }
 
 // check_char_refs looks at '&', which is its mark.
-struct References;
+pub struct References;
 
 impl Rule for References {
     ghost MARK = { 0x26 };
@@ -180,12 +173,4 @@ pub fn walk_char_refs(text: &[u8], at: usize) -> Answer
     ensures { said result ≡ read check_char_refs text.now at }
 {
     walk::<References>(text, at)
-}
-
-// check_char_refs on any bytes, without the two refusals that come first; one call, as in every check (calls.rt).
-pub fn char_refs_admitted(text: &[u8]) -> Verdict
-    ensures { code result ≡ number_of (check_char_refs text.now) }
-{
-    walk_char_refs(text, 0)?;
-    Ok(())
 }

@@ -1,12 +1,12 @@
 // The loop of each check: its rule again and again, and in between the bytes that the rule takes as they stand, most of them in blocks.
 ghost use Rattle.std.specs.Prelude.{◌≡◌, ℕ};
-ghost use Rattle.spec.specs.Reading.Readers.{Reader, throughout};
-ghost use Rattle.error.specs.Read.{said, read};
+ghost use Rattle.spec.specs.Reading.Readers.{Reader, throughout, number_of};
+ghost use Rattle.error.specs.Read.{said, read, code};
 ghost use Rattle.chars.specs.Bytes.{special};
 ghost use Rattle.chars.specs.Rules.{Steady};
 
 use crate::skip::{CALM, is_special, skip_blocks};
-use error::Answer;
+use error::{Answer, Verdict};
 
 // What a check says of the bytes at a place.
 pub trait Rule {
@@ -25,7 +25,8 @@ pub trait Rule {
     ghost steady: { Steady reader (special MARK) };
 }
 
-// A rule from `at` on, to the text's end. Its step says where it goes on, so this is no `for`. (With the step first, attribute values with many references are slower by a twelfth.)
+// A rule from `at` on, to the text's end. Its step says where it goes on, so this is no `for`. (With the step first, attribute values
+// with many references are slower by a twelfth.)
 pub fn walk<R: Rule>(text: &[u8], at: usize) -> Answer
     ensures { said result ≡ read (throughout R.reader) text.now at }
 {
@@ -45,4 +46,12 @@ pub fn walk<R: Rule>(text: &[u8], at: usize) -> Answer
         calm = 0;
     }
     Ok(i)
+}
+
+// A rule's check on any bytes where no place is asked for, without the two refusals that come first.
+pub fn admitted<R: Rule>(text: &[u8]) -> Verdict
+    ensures { code result ≡ number_of (throughout R.reader text.now) }
+{
+    walk::<R>(text, 0)?;
+    Ok(())
 }

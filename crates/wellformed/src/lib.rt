@@ -5,4 +5,3 @@ mod calls;
 mod text;
 
 pub use calls::{check_attr_value, check_attr_value_at, check_text, check_text_at};
-pub use text::{attr_value_admitted, text_admitted};

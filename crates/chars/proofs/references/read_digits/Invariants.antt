@@ -1,12 +1,7 @@
 -- `chars::references::read_digits` meets its contract. The invariant: the digits from `at` on end where those from i on do, and v stands for those before i.
 -- Assumes nothing.
-use Prim.Native.Nat.{◌-◌}
-use lib.ListN.{length}
 use Rattle.chars.proofs.Digits.{DigitsLeft}
 use Rattle.chars.proofs.references.read_digits.Given as goal
 
 abbrev pub invariant-loop-i : goal.invariant-loop-i
 invariant-loop-i l = DigitsLeft l.radix l.s l.at l.i l.v
-
-abbrev pub decreases-loop-i : goal.decreases-loop-i
-decreases-loop-i l = length l.s - l.i
