@@ -1,18 +1,14 @@
 -- The part of a text that is read, as the code finds it: in UTF-8 up to the first illegal character of what is UTF-8, in a class of ASCII
 -- as far as its bytes run. Assumes nothing.
 use mathlib.Core.Path.{◌≡◌, refl, sym, ap, ◌∙◌}
-use mathlib.Core.Bool.{Bool, true, false, not, and-false, and-true, true≢false}
+use mathlib.Core.Bool.{Bool, true, false, and-false, and-true, true≢false}
 use mathlib.Core.List.{List, [], ◌∷◌, ◌++◌}
 use Prim.Native.Nat.{ℕ, zero, suc, ◌+◌, ◌-◌, ◌<◌, ◌≤◌}
 use native.Mathlib.Omega.{arith}
 use borrow.Author.Rules.{rules}
-use borrow.Author.Tests.{ltb-false}
 use lib.Dec.{ltb}
 use lib.ListN.{length, take, drop, length-drop, length-append}
 use lib.Seq.{take-length, take-append-add, drop_at}
-use Rattle.std.specs.Prelude.{Option, Some, None}
-use Rattle.std.specs.List.{position_or_len}
-use Rattle.std.specs.Option.{unwrap_or}
 use Rattle.spec.specs.Basics.{pick}
 use Rattle.spec.specs.Grammar.Characters.{xml_char}
 use Rattle.spec.specs.Grammar.Encodings.{in_bytes, foreign, class_of}
@@ -34,7 +30,6 @@ use Rattle.spec.proofs.Characters.Valid.{utf8_end, utf8_turn, utf8_stop, utf8_so
 use Rattle.spec.proofs.Inside.Ways.{stop_past}
 use Rattle.spec.proofs.Wellformed.LongestName.{chars, chars_turn, chars_stop, char_is, char_not, char_none}
 use Rattle.spec.proofs.Wellformed.Walks.{over_char}
-use Rattle.spec.proofs.Base.Places.{run_within}
 use Rattle.utf8.specs.Seen.{accepts}
 use Rattle.encodings.specs.Codings.{of}
 use Rattle.encodings.specs.declared.codings.Coding.{Coding}
@@ -205,24 +200,6 @@ module _ (w : List ℕ) (coding : Coding) where
   pub legal_foreign : coding ≡ Foreign → 0 ≡ legal_length (class_of (of coding)) w
   unfolding of
   legal_foreign e = rw e (sym (foreign_none w))
-
--- the first byte outside a class, or the end, as `position` and `unwrap_or` say it
-first_is : (p : ℕ → Bool) (w : List ℕ) → position_or_len (λ b. not (p b)) w ≡ run p w
-unfolding run
-first_is p [] = refl
-first_is p (b ∷ w) = go (p b) (first_is p w)
-  where
-    go : (t : Bool) → position_or_len (λ b. not (p b)) w ≡ run p w → pick (not (not t)) (1 + position_or_len (λ b. not (p b)) w) 0 ≡ pick t (suc (run p w)) 0
-    go true e = one-add (position_or_len (λ b. not (p b)) w) ∙ ap suc e
-    go false e = refl
-
-pub run_is : (p : ℕ → Bool) (w : List ℕ) (r : Option ℕ)
-    → r ≡ pick (ltb (position_or_len (λ b. not (p b)) w) (length w)) (Some (position_or_len (λ b. not (p b)) w)) None → unwrap_or r (length w) ≡ run p w
-run_is p w r e = rw (e, first_is p w) (go (ltb (run p w) (length w)) refl)
-  where
-    go : (t : Bool) → ltb (run p w) (length w) ≡ t → unwrap_or (pick t (Some (run p w)) None) (length w) ≡ run p w
-    go true f = refl
-    go false f = let l = ltb-false (run p w) (length w) f in let m = run_within p w in omega arith
 
 -- what the functions search
 pub ruleset legal = (ascii_not, ascii_is, utf8_whole, utf8_part, utf8_within, legal_utf8, legal_bytes, legal_foreign, rules)

@@ -9,6 +9,7 @@ ghost use Rattle.encodings.specs.Codings.{of};
 
 use crate::codings::Coding;
 use chars::{chars_end, is_xml_char};
+use search::past_run;
 use utf8::{is_valid, text_end};
 
 // In UTF-8. Two quick passes over the whole, where it is UTF-8; only where it is not, it is decoded up to there.
@@ -35,9 +36,7 @@ fn is_ascii_char(b: u8) -> bool
 fn ascii_end(text: &[u8]) -> usize
     ensures { result ≡ run (class_of in_bytes) text.now }
 {
-    text.iter()
-        .position(|&b| !is_ascii_char(b))
-        .unwrap_or(text.len())
+    past_run(text, 0, is_ascii_char)
 }
 
 // In any coding. Of a foreign one nothing is read.

@@ -1,27 +1,25 @@
 -- Names at a place in a text: the code's loop over name characters, for any classes. Assumes nothing.
 use mathlib.Core.Path.{◌≡◌, refl, sym, ap, subst, ◌∙◌}
-use mathlib.Core.Bool.{Bool, true, false, cond, ◌&&◌, not}
+use mathlib.Core.Bool.{Bool, true, false, ◌&&◌}
 use mathlib.Core.List.{List, [], ◌∷◌}
 use Prim.Native.Nat.{ℕ, suc, ◌+◌, ◌-◌, ◌^◌, ◌<◌, ◌≤◌}
 use native.Mathlib.Nat.{add-zero, zero-add}
 use native.Mathlib.Omega.{arith}
 use borrow.Author.Rules.{rules}
-use borrow.Author.Tests.{ltb-false}
 use mir.Syntax.{w64}
 use mir.Val.{Fits}
-use lib.Dec.{ltb}
 use lib.ListN.{length, take, drop, get_or, length-drop}
 use lib.Seq.{drop-drop, take-nil, length-take-le}
+use Rattle.spec.specs.Basics.{pick}
 use Rattle.spec.specs.Grammar.Names.{Dialect, Name}
 use Rattle.spec.specs.Reading.Refusals.{bad_name}
 use Rattle.spec.specs.Reading.Utf8.{decode1}
-use Rattle.spec.specs.Reading.Readers.{Result, ok, err, number_of, taken, past, ◌>>◌, at_end, char}
+use Rattle.spec.specs.Reading.Readers.{Result, ok, err, number_of, taken, past, run, ◌>>◌, at_end, char}
 use Rattle.spec.specs.Reading.Wellformed.{parts, name, name_length, check_name}
 use Rattle.spec.proofs.Base.Tests.{and_left, and_right}
 use Rattle.spec.proofs.Base.Places.{drop_at, drop_end, take_rest}
 use Rattle.spec.proofs.Characters.Utf8.{decode_1}
-use Rattle.std.specs.List.{position_or_len, fold}
-use Rattle.std.specs.Option.{unwrap_or}
+use Rattle.std.specs.List.{fold}
 use Rattle.spec.proofs.Wellformed.LongestName.{char_is, char_not, char_none, chars_stop, chars_turn, parts_ok, parts_takes, name_first, name_none, Named, a_name, no_name, named, name_within, name_is_name, name_longest}
 use Rattle.std.specs.Prelude.{Option, Some, None, Ok, Err}
 use Rattle.error.specs.Read.{passed, refused, said, read}
@@ -102,41 +100,23 @@ pub past_stop : (names : Names) (s : List ℕ) (i : ℕ) → i + taken (parts (d
 past_stop names s i inv h = rw (parts_none (dialect names) (drop i s) (none_past (dialect names).part s i h), add-zero) at inv
 
 -- the name characters below 128, whatever the edition
-abbrev ascii_part_len : List ℕ → ℕ
-ascii_part_len w = position_or_len (λ b. not (ascii_part b)) w
-
-ascii_run : (w : List ℕ) → AsciiRun w (ascii_part_len w)
+ascii_run : (w : List ℕ) → AsciiRun w (run ascii_part w)
+unfolding run
 ascii_run [] = record { among = λ names. zero-add _; ends = λ names l. sym (parts_none (dialect names) [] (none_past (dialect names).part [] 0 (omega arith))) }
 ascii_run (b ∷ w) = go (ascii_part b) refl (ascii_run w)
   where
-    go : (t : Bool) → ascii_part b ≡ t → AsciiRun w (ascii_part_len w) → AsciiRun (b ∷ w) (cond (not (not t)) (1 + ascii_part_len w) 0)
+    go : (t : Bool) → ascii_part b ≡ t → AsciiRun w (run ascii_part w) → AsciiRun (b ∷ w) (pick t (suc (run ascii_part w)) 0)
     go false e rest = record { among = λ names. zero-add _; ends = λ names l. sym (parts_none (dialect names) (b ∷ w) (none_sign (dialect names).part b w false (part_low names b false l (sym e)) l refl)) }
     go true e rest =
         let l : b < 128 = sign_low b e in
         let first : (names : Names) → taken (parts (dialect names) (b ∷ w)) ≡ 1 + taken (parts (dialect names) w) = λ names. parts_more (dialect names) (b ∷ w) 1 (one_sign (dialect names).part b w true (part_low names b true l (sym e)) l refl) in
-        let next : suc (ascii_part_len w) ≡ 1 + ascii_part_len w = omega arith in
-        subst (AsciiRun (b ∷ w)) next (record {
+        record {
           among = λ names. omega (arith, first names, rest.among names);
           ends = λ names h. omega (arith, first names, rest.ends names h);
-        })
+        }
 
-ascii_within : (w : List ℕ) → ascii_part_len w ≤ length w
-ascii_within [] = omega arith
-ascii_within (b ∷ w) = go (not (not (ascii_part b))) (ascii_within w)
-  where
-    go : (t : Bool) → ascii_part_len w ≤ length w → cond t (1 + ascii_part_len w) 0 ≤ suc (length w)
-    go true h = omega arith
-    go false h = omega arith
-
-pub ascii_found : (w : List ℕ) (o : Option ℕ) (r : ℕ) → o ≡ cond (ltb (ascii_part_len w) (length w)) (Some (ascii_part_len w)) None → r ≡ unwrap_or o (length w) → AsciiRun w r
-ascii_found w o r e f = subst (AsciiRun w) (sym (f ∙ ap (λ (x : Option ℕ). unwrap_or x (length w)) e ∙ go (ltb n (length w)) refl)) (ascii_run w)
-  where
-    n : ℕ
-    n = ascii_part_len w
-
-    go : (t : Bool) → ltb n (length w) ≡ t → unwrap_or (cond t (Some n) None) (length w) ≡ n
-    go true g = refl
-    go false g = let z = ascii_within w in let y : length w ≤ n = ltb-false n (length w) g in omega arith
+pub ascii_found : (w : List ℕ) (r : ℕ) → r ≡ 0 + run ascii_part (drop 0 w) → AsciiRun w r
+ascii_found w r e = subst (AsciiRun w) (sym (e ∙ zero-add (run ascii_part w))) (ascii_run w)
 
 -- and what they leave: nothing, an ASCII sign, or a byte to decode
 module _ (names : Names) (s : List ℕ) (n : ℕ) (a : AsciiRun s n) where

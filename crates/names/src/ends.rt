@@ -8,15 +8,15 @@ ghost use Rattle.names.specs.Names.{AsciiRun};
 ghost use Rattle.names.specs.NamePart.{NamePart};
 
 use classes::{Names, ascii_name_char, ascii_name_start, is_name_char, is_name_start_char};
+use search::past_run;
 use utf8::code_point;
 
 // The name characters below 128: up to their end, or up to a byte that wants decoding. Most names are ASCII, and this decodes nothing.
+// (As ascii_end of encodings it is one call with a class of its own.)
 fn ascii_len(s: &[u8]) -> usize
     ensures { AsciiRun s.now result }
 {
-    s.iter()
-        .position(|&b| !ascii_name_char(b))
-        .unwrap_or(s.len())
+    past_run(s, 0, ascii_name_char)
 }
 
 // All name characters, decoded where a byte is 128 or more. The place moves by each character's width, which no iterator over bytes does.

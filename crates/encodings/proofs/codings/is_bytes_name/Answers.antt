@@ -2,14 +2,8 @@
 use borrow.Author.Rules.{rules}
 use Rattle.spec.specs.Grammar.Encodings.{iso_part, windows_part}
 use Rattle.spec.specs.Grammar.Languages.{ascii}
-use Rattle.encodings.proofs.Naming.{part_is, one_yes, one_no}
+use Rattle.encodings.proofs.Naming.{part_is, one_no}
 use Rattle.encodings.proofs.codings.is_bytes_name.Goals as goal
-
-pub returns-then-is_some_and : goal.returns-then-is_some_and
-returns-then-is_some_and c =
-    one_yes _ _ _
-    (part_is (ascii "iso-8859-") c.args.name.now iso_part c.rest_of.result _ c.is_some_and.result c.rest_of.ensures c.is_some_and.ensures (λ p q. search rules))
-    c.if-is_some_and.true
 
 pub returns-else-is_some_and : goal.returns-else-is_some_and
 returns-else-is_some_and c =
