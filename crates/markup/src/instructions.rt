@@ -13,27 +13,17 @@ use names::parse_name;
 use search::{at_keyword, find, find_byte};
 
 // The target "xml", in any case.
-#[tactic(auto, using(crate::proofs::Targets::targets))]
 fn is_reserved(t: &[u8]) -> bool
     ensures { result ≡ reserved t.now }
 {
-    if t.len() != 3 {
-        return false;
-    }
-    ((t[0] == b'X') | (t[0] == b'x'))
-        & ((t[1] == b'M') | (t[1] == b'm'))
-        & ((t[2] == b'L') | (t[2] == b'l'))
+    t.eq_ignore_ascii_case(b"xml")
 }
 
 // What a target ends before: white space, or the text's end.
-#[tactic(auto, using(crate::proofs::Targets::targets))]
 fn ends_target(t: &[u8], at: usize) -> bool
     ensures { result ≡ target_ends (drop at t.now) }
 {
-    if t.len() <= at {
-        return true;
-    }
-    is_space(t[at])
+    t.get(at).is_none_or(|&b| is_space(b))
 }
 
 // What stands between "<?" and "?>", t from `at` on, of which only [17] PITarget is looked at: check_name, reject_colon, and not the reserved

@@ -10,7 +10,7 @@ use mir.Syntax.{w64}
 use mir.Val.{Fits}
 use lib.Dec.{T, eqb}
 use lib.ListN.{length, get_or, drop}
-use Rattle.std.specs.Prelude.{Ok, Err}
+use Rattle.std.specs.Prelude.{Ok}
 use Rattle.spec.specs.Grammar.Languages.{ascii, one_of}
 use Rattle.spec.specs.Reading.Readers.{nothing, choose, begins, char}
 use Rattle.spec.specs.Reading.Dtd.{occurs}
@@ -19,8 +19,7 @@ use Rattle.spec.proofs.Base.Tests.{true→T}
 use Rattle.spec.proofs.Base.Places.{drop_at, byte_in, front_at}
 use Rattle.spec.proofs.Characters.Utf8.{decode_1}
 use Rattle.spec.proofs.Agreement.FirstSign.{begins_sign}
-use Rattle.error.specs.Read.{said, read, refused}
-use Rattle.error.specs.declared.Fault.{Fault}
+use Rattle.error.specs.Read.{said, read}
 
 -- the class as the code tests it
 abbrev mark : ℕ → Bool

@@ -1,5 +1,5 @@
 -- Single signs at a place, and what is read after one. Assumes nothing.
-use mathlib.Core.Path.{◌≡◌, refl}
+use mathlib.Core.Path.{◌≡◌, refl, ap, ◌∙◌}
 use mathlib.Core.Bool.{Bool, true, false, ◌||◌, and-true}
 use mathlib.Core.List.{List, [], ◌∷◌}
 use Prim.Native.Nat.{ℕ, ◌+◌, ◌<◌, ◌≤◌}
@@ -8,7 +8,10 @@ use borrow.Author.Rules.{rules}
 use borrow.Author.Tests.{not-true, not-false}
 use lib.Dec.{eqb}
 use lib.ListN.{length, get_or, drop}
-use Rattle.std.specs.Prelude.{Ok, Err}
+use denote.Ref.{Bor}
+use Rattle.std.specs.Prelude.{Option, Some, None, Ok, Err}
+use Rattle.std.specs.Option.{option_eq}
+use Rattle.std.specs.Slice.{IsItemAt}
 use Rattle.spec.specs.Basics.{pick}
 use Rattle.spec.specs.Grammar.Characters.{space}
 use Rattle.spec.specs.Reading.Refusals.{Refusal, unexpected}
@@ -18,20 +21,27 @@ use Rattle.spec.proofs.Base.Loops.{Somes}
 use Rattle.spec.proofs.Base.Results.{err_ok, ok_inj}
 use Rattle.spec.proofs.Base.Places.{drop_at, drop_end}
 use Rattle.spec.proofs.Base.Somes.{some_then}
-use Rattle.error.specs.Read.{Said, said, read, Answer, refused}
+use Rattle.error.specs.Read.{Said, said, read, Answer}
 use Rattle.error.specs.declared.Fault.{Fault}
 use Rattle.error.proofs.Laws.{seq_no, seq_at, took_nothing}
 use Rattle.cursor.proofs.Reading.{skip_then, skip_only}
 use Rattle.search.proofs.Words.{on_yes, on_no, word_yes, word_then, word_no, word_not, word_fits}
 
 -- the sign c stands at a place or not, by the byte there
-pub sign_in : (c : ℕ) (s : List ℕ) (at : ℕ) → at < length s → eqb (get_or s at 0) c ≡ starts (c ∷ []) (drop at s)
+sign_in : (c : ℕ) (s : List ℕ) (at : ℕ) → at < length s → eqb (get_or s at 0) c ≡ starts (c ∷ []) (drop at s)
 unfolding starts
 sign_in c s at h = rw (drop_at s at h, and-true)
 
-pub sign_past : (c : ℕ) (s : List ℕ) (at : ℕ) → length s ≤ at → false ≡ starts (c ∷ []) (drop at s)
+sign_past : (c : ℕ) (s : List ℕ) (at : ℕ) → length s ≤ at → false ≡ starts (c ∷ []) (drop at s)
 unfolding starts
 sign_past c s at h = rw (drop_end s at h)
+
+-- r is what `get` lends at a place, and z holds the sign
+pub sign_get : (c : ℕ) (s : List ℕ) (at : ℕ) (E : Bor ℕ → Bor ℕ → Bool) (r : Option (Bor ℕ)) (z : Bor ℕ) → IsItemAt s at r → ((x : Bor ℕ) → E x z ≡ eqb x.now c) → option_eq E r (Some z) ≡ starts (c ∷ []) (drop at s)
+sign_get c s at E (Some x) z g f =
+    let v : x.now ≡ get_or s at 0 = g.4 (omega arith) 0 in
+    f x ∙ ap (λ (b : ℕ). eqb b c) v ∙ sign_in c s at g.3.0
+sign_get c s at E None z g f = sign_past c s at g.3
 
 -- either connector, by two tests
 pub connector_is : (a b : Bool) (w : List ℕ) → a ≡ starts (124 ∷ []) w → b ≡ starts (44 ∷ []) w → (a || b) ≡ connector w
@@ -75,7 +85,5 @@ module _ (c : ℕ) (R : Reader) (s : List ℕ) (at : ℕ) (b : Bool) (e : b ≡ 
   pub after_at : (d j : ℕ) → r ≡ Ok d → j ≡ d + run space (drop d s) → said (Ok j) ≡ read (after_sign c R) s at
   after_at d j f hj = sign_then c s at b e y unexpected (skip_s >> R >> skip_s) (said (Ok j)) (skip_then s (at + 1) i hi (R >> skip_s) (said (Ok j)) (seq_at R skip_s s i d r (said (Ok j)) hr f (skip_only s d j hj)))
 
--- what the tests of signs search, and what code that reads signs, words and white space one after the other searches
-pub ruleset signs = (sign_in, sign_past, connector_is, rules)
-
+-- what code that reads signs, words and white space one after the other searches
 pub ruleset steps = (sign_yes, sign_then, word_no, word_not, word_fits, skip_then, skip_only, on_yes, on_no, took_nothing, not-true, not-false, rules)

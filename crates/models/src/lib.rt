@@ -2,7 +2,7 @@
 // Text, place and names stay three parameters (classes/src/lib.rt says why).
 #![tactic(auto)]
 
-ghost use Rattle.std.specs.Prelude.{◌≡◌, [], ◌∷◌, drop};
+ghost use Rattle.std.specs.Prelude.{◌≡◌, [], ◌∷◌, drop, Ok};
 ghost use Rattle.spec.specs.Reading.Readers.{starts};
 ghost use Rattle.spec.specs.Reading.Refusals.{too_deep};
 ghost use Rattle.spec.specs.Reading.Dtd.{connector, occurs, cp_of, parse_group, parse_children, parse_mixed, parse_contentspec};
@@ -20,18 +20,14 @@ use utf8::byte_at;
 const GROUPS: usize = 64;
 
 // Whether the sign b stands at `at`.
-#[tactic(auto, using(crate::proofs::Signs::signs))]
 fn at_sign(s: &[u8], at: usize, b: u8) -> bool
     ensures { result ≡ starts (b ∷ []) (drop at s.now) }
 {
-    if at < s.len() {
-        return s[at] == b;
-    }
-    false
+    s.get(at) == Some(&b)
 }
 
 // '|' or ','. (One of two signs, as a quote mark is in decls; each is its own production.)
-#[tactic(auto, using(crate::proofs::Signs::signs))]
+#[tactic(auto, using(crate::proofs::Signs::connector_is))]
 fn at_connector(s: &[u8], at: usize) -> bool
     ensures { result ≡ connector (drop at s.now) }
 {
@@ -40,14 +36,14 @@ fn at_connector(s: &[u8], at: usize) -> bool
 
 // ('?' | '*' | '+')?, at most one of them.
 #[tactic(auto, using(crate::proofs::Occurs::occurring))]
-fn occurrence_end(s: &[u8], at: usize) -> Answer
-    ensures { said result ≡ read occurs s.now at }
+fn occurrence_end(s: &[u8], at: usize) -> usize
+    ensures { said (Ok result) ≡ read occurs s.now at }
 {
     let b = byte_at(s, at);
     if (b == b'?') | (b == b'*') | (b == b'+') {
-        return Ok(at + 1);
+        return at + 1;
     }
-    Ok(at)
+    at
 }
 
 // [48] cp, in which so many groups may yet be opened.
@@ -57,10 +53,10 @@ fn parse_cp(s: &[u8], at: usize, height: usize, names: Names) -> Answer
 {
     if at_sign(s, at, b'(') {
         let e = parse_group(s, at, height, names)?;
-        return occurrence_end(s, e);
+        return Ok(occurrence_end(s, e));
     }
     let e = need_name(s, at, names)?;
-    occurrence_end(s, e)
+    Ok(occurrence_end(s, e))
 }
 
 // [49] choice and [50] seq after the first particle and white space: the first connector fixes which of the two it is. The byte here
@@ -109,7 +105,7 @@ pub fn parse_children(s: &[u8], at: usize, names: Names) -> Answer
     ensures { said result ≡ read (parse_children (dialect names) too_deep) s.now at }
 {
     let e = parse_group(s, at, GROUPS, names)?;
-    occurrence_end(s, e)
+    Ok(occurrence_end(s, e))
 }
 
 // [51] Mixed from its first '|' on: names, and then ')*'.
