@@ -40,6 +40,3 @@ module _ (kw : List ℕ) (s : List ℕ) (at : ℕ) (r : Answer) (n : Refusal) (a
 -- What code that reads one thing after another searches: of laws with as many premises the first is tried first. Six readers are found.
 pub ruleset reading =
     (skip_then, skip_only, ate_stop, ate_next, seq_at, seq_no, ate, ate_not, ate_then, ate_only, choose_yes, choose_no, refuses, took_nothing, rules)
-
--- Of these, the laws for an answer that ends a chain: where a search in all of them breaks off, one in these may not.
-pub ruleset onward = (skip_then, skip_only, ate_next, seq_at, ate, ate_not, ate_then, ate_only, choose_yes, choose_no, refuses, took_nothing)

@@ -8,7 +8,7 @@ mod tokens;
 mod words;
 
 pub use literals::{
-    AttText, EntityText, PubidText, parse_checked, parse_external_id, parse_quoted,
+    AttText, EntityText, parse_checked, parse_external_id, parse_id, parse_quoted,
     parse_spaced_literal,
 };
 pub use reads::Reads;

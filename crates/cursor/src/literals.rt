@@ -6,7 +6,7 @@ ghost use Rattle.spec.specs.Reading.Readers.{nothing};
 ghost use Rattle.spec.specs.Reading.Wellformed.{check_char_refs};
 ghost use Rattle.spec.specs.Reading.Dtd.{parse_quoted, check_pubid, parse_external_id, check_att_value};
 ghost use Rattle.error.specs.Read.{said, read};
-ghost use Rattle.cursor.specs.Spaced.{spaced_literal};
+ghost use Rattle.cursor.specs.Spaced.{spaced_literal, id_then};
 
 use crate::reads::Reads;
 use crate::space::require_s;
@@ -60,7 +60,7 @@ fn check_pubid(t: &[u8], at: usize) -> Answer
 }
 
 // The text of [12] PubidLiteral.
-pub struct PubidText;
+struct PubidText;
 
 impl Reads for PubidText {
     ghost reader = { λ _. check_pubid };
@@ -116,10 +116,21 @@ pub fn parse_spaced_literal(s: &[u8], at: usize) -> Answer
     parse_quoted(s, i)
 }
 
-// [75] ExternalID.
-#[tactic(auto, using(crate::proofs::Reading::reading), unfolding(spec::specs::Reading::Dtd::parse_external_id, spec::specs::Reading::Readers::on))]
-pub fn parse_external_id(s: &[u8], at: usize) -> Answer
-    ensures { said result ≡ read parse_external_id s.now at }
+// It as a reader, for what follows a public identifier.
+struct SpacedLiteral;
+
+impl Reads for SpacedLiteral {
+    ghost reader = { λ _. spaced_literal };
+
+    fn read(&self, s: &[u8], at: usize) -> Answer {
+        parse_spaced_literal(s, at)
+    }
+}
+
+// [75] ExternalID or [83] PublicID, which differ in what follows the public identifier: that is the caller's.
+#[tactic(auto, using(crate::proofs::Reading::reading), unfolding(spec::specs::Reading::Readers::on))]
+pub fn parse_id<A: Reads>(s: &[u8], at: usize, after: &A) -> Answer
+    ensures { said result ≡ read (id_then (A.reader after.now)) s.now at }
 {
     if let Ok(i) = eat_str(s, at, b"SYSTEM", Refusal::Unexpected) {
         return parse_spaced_literal(s, i);
@@ -127,5 +138,13 @@ pub fn parse_external_id(s: &[u8], at: usize) -> Answer
     let i = eat_str(s, at, b"PUBLIC", Refusal::Unexpected)?;
     let j = require_s(s, i)?;
     let e = parse_checked(s, j, &PubidText)?;
-    parse_spaced_literal(s, e)
+    after.read(s, e)
+}
+
+// [75] ExternalID.
+#[tactic(auto, unfolding(spec::specs::Reading::Dtd::parse_external_id))]
+pub fn parse_external_id(s: &[u8], at: usize) -> Answer
+    ensures { said result ≡ read parse_external_id s.now at }
+{
+    parse_id(s, at, &SpacedLiteral)
 }

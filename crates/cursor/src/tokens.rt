@@ -61,16 +61,13 @@ impl Reads for Nmtoken {
 }
 
 // NCName of Namespaces: a Name, and reject_colon on it.
-#[tactic(auto, using(crate::proofs::Parts::parted))]
+#[tactic(auto, using(crate::proofs::Parts::uncoloned))]
 pub fn need_ncname(s: &[u8], at: usize, names: Names) -> Answer
     ensures { said result ≡ read (ncname (dialect names)) s.now at }
 {
-    let part = parse_name(s, at, names);
-    if part.len() == 0 {
-        return Err(Refusal::BadName.at(at));
-    }
-    if let Some(j) = find_byte(part, 0, b':') {
+    let end = need_name(s, at, names)?;
+    if let Some(j) = find_byte(&s[at..end], 0, b':') {
         return Err(Refusal::HasColon.at(at + j));
     }
-    Ok(at + part.len())
+    Ok(end)
 }

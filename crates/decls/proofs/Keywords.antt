@@ -9,8 +9,9 @@ use borrow.Author.Rules.{rules}
 use lib.ListN.{length, get_or, drop, drop_of_length-le}
 use lib.Seq.{drop-cons}
 use native.Mathlib.Numerals.{add-one}
+use native.Mathlib.Omega.{arith}
 use Rattle.std.specs.Borrow.{Bor}
-use Rattle.std.specs.Prelude.{Ok, Err}
+use Rattle.std.specs.Prelude.{Ok, Err, map}
 use Rattle.spec.specs.Grammar.Languages.{ascii}
 use Rattle.spec.specs.Reading.Refusals.{Refusal, unexpected}
 use Rattle.spec.specs.Reading.Readers.{ok, Reader, refuse, starts, choose, on, word_of}
@@ -18,12 +19,26 @@ use Rattle.spec.specs.Reading.Dtd.{word_among}
 use Rattle.error.specs.Read.{Said, said, placed, read, eaten, Answer, refused}
 use Rattle.error.specs.declared.Fault.{Fault}
 use Rattle.error.proofs.Laws.{passed≢refused, refuses, ate_only, ate_not}
-use Rattle.cursor.proofs.Reading.{reading}
 
 -- the first keyword of a table that stands, tried in order
 unfoldable pub first_of : List (Bor (List ℕ)) → Reader
 first_of [] = refuse unexpected
 first_of (k ∷ ks) = choose (starts k.now) (word_of k.now unexpected) (first_of ks)
+
+-- The rows of a table that spell the words, in the order in which these stand: the first row that stands is the first word that does.
+same_rows : (ss : List String) (rows : List (Bor (List ℕ))) → map (λ r. r.now) rows ≡ map (λ x. ascii x) ss → first_of rows ≡ word_among ss (refuse unexpected)
+unfolding first_of word_among on
+same_rows [] [] e = refl
+same_rows [] (k ∷ ks) e = let z = ap length e in absurd (omega arith)
+same_rows (x ∷ ss) [] e = let z = ap length e in absurd (omega arith)
+same_rows (x ∷ ss) (k ∷ ks) e =
+    let f : k.now ≡ ascii x = cc in
+    let g : map (λ (r : Bor (List ℕ)). r.now) ks ≡ map (λ x. ascii x) ss = cc in
+    rw (f, same_rows ss ks g)
+
+pub rows_all : (ss : List String) (rows : List (Bor (List ℕ))) → map (λ r. r.now) rows ≡ map (λ x. ascii x) ss
+    → (s : List ℕ) (at : ℕ) → read (first_of rows) s at ≡ read (word_among ss (refuse unexpected)) s at
+rows_all ss rows e s at = ap (λ (R : Reader). read R s at) (same_rows ss rows e)
 
 -- Row i, where W is what is said of the whole; r is what eat_str gave for it.
 module _ (rows : List (Bor (List ℕ))) (i : ℕ) (s : List ℕ) (at : ℕ) (W : Said) (inv : read (first_of (drop i rows)) s at ≡ W) where
@@ -79,6 +94,3 @@ module _ (ss : List String) (n : Refusal) (q : Reader) (s : List ℕ) (at : ℕ)
       go : ((k : ℕ) × ((p : Reader) → word_among ss p (drop at s) ≡ ok k)) ⊎ ((p : Reader) → word_among ss p (drop at s) ≡ p (drop at s)) → b ≡ read (word_among ss q) s at
       go (inl (j, f)) = absurd (passed≢refused (sym (ap (placed at) (f (refuse n))) ∙ sym a ∙ ap said e))
       go (inr f) = g ∙ (rw (f q))
-
--- what the type of an attribute searches
-pub ruleset typing = (among_yes, among_no, reading)

@@ -6,8 +6,8 @@ use Rattle.spec.specs.Grammar.Names.{Dialect}
 use Rattle.spec.specs.Reading.Refusals.{unexpected}
 use Rattle.spec.specs.Reading.Readers.{Reader, ◌>>◌, nothing, starts, on, word, run, while}
 use Rattle.spec.specs.Reading.Wellformed.{name, check_char_refs}
-use Rattle.spec.specs.Reading.Dtd.{skip_s, require_s, parse_quoted, check_pubid, check_att_value, parse_external_id, bar_list, parse_att_def, on_quote, ncname, ndata, second_literal}
-use Rattle.cursor.specs.Spaced.{spaced_literal}
+use Rattle.spec.specs.Reading.Dtd.{skip_s, require_s, parse_quoted, check_att_value, parse_external_id, bar_list, parse_att_def, on_quote, ncname, ndata, second_literal}
+use Rattle.cursor.specs.Spaced.{id_then}
 
 -- more than white space is left
 abbrev pub more_left : List ℕ → Bool
@@ -57,8 +57,6 @@ ge_decl D = ncname D >> require_s >> entity_def D
 abbrev pub entity : Dialect → Reader
 entity D = on "%" (word "%" unexpected >> pe_decl D) (ge_decl D)
 
--- a notation's identifier
+-- a notation's identifier, [75] ExternalID or [83] PublicID
 abbrev pub notation_id : Reader
-notation_id =
-    on "SYSTEM" (word "SYSTEM" unexpected >> spaced_literal)
-    (word "PUBLIC" unexpected >> require_s >> parse_quoted check_pubid >> second_literal)
+notation_id = id_then second_literal

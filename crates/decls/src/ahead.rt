@@ -20,7 +20,8 @@ pub fn at_spaced_quote(s: &[u8], at: usize) -> bool
     (at < i) & at_quote(s, i)
 }
 
-// White space is next, and then NDATA.
+// White space is next, and then NDATA. (The two look for other things behind the same space: one function over a closure would be as long as
+// either, and a function more.)
 pub fn at_spaced_ndata(s: &[u8], at: usize) -> bool
     ensures { result ≡ spaced ndata_next (drop at s.now) }
 {

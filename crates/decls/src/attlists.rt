@@ -68,6 +68,7 @@ fn parse_fixed(s: &[u8], at: usize) -> Answer
 }
 
 // (('#FIXED' S)? AttValue) of [60] DefaultDecl.
+#[tactic(auto, using(cursor::proofs::Reading::reading))]
 fn parse_default_value(s: &[u8], at: usize) -> Answer
     ensures { said result ≡ read default_value s.now at }
 {

@@ -8,34 +8,29 @@ ghost use Rattle.decls.specs.Pieces.{notation_id};
 
 use crate::ahead::at_spaced_quote;
 use classes::Names;
-use cursor::{
-    PubidText, at_end, eat_str, need_ncname, parse_checked, parse_spaced_literal, require_s, skip_s,
-};
-use error::{Answer, Refusal};
+use cursor::{Reads, at_end, need_ncname, parse_id, parse_spaced_literal, require_s, skip_s};
+use error::Answer;
 
 // The system identifier after a public one, which only [83] PublicID may leave out.
-#[tactic(auto, using(cursor::proofs::Reading::reading), unfolding(spec::specs::Reading::Dtd::second_literal))]
-fn parse_second_literal(s: &[u8], at: usize) -> Answer
-    ensures { said result ≡ read second_literal s.now at }
-{
-    if at_spaced_quote(s, at) {
-        return parse_spaced_literal(s, at);
+struct SecondLiteral;
+
+impl Reads for SecondLiteral {
+    ghost reader = { λ _. second_literal };
+
+    #[tactic(auto, using(cursor::proofs::Reading::reading), unfolding(spec::specs::Reading::Dtd::second_literal))]
+    fn read(&self, s: &[u8], at: usize) -> Answer {
+        if at_spaced_quote(s, at) {
+            return parse_spaced_literal(s, at);
+        }
+        Ok(at)
     }
-    Ok(at)
 }
 
 // [75] ExternalID or [83] PublicID.
-#[tactic(auto, using(cursor::proofs::Reading::reading), unfolding(spec::specs::Reading::Readers::on))]
 fn parse_notation_id(s: &[u8], at: usize) -> Answer
     ensures { said result ≡ read notation_id s.now at }
 {
-    if let Ok(i) = eat_str(s, at, b"SYSTEM", Refusal::Unexpected) {
-        return parse_spaced_literal(s, i);
-    }
-    let i = eat_str(s, at, b"PUBLIC", Refusal::Unexpected)?;
-    let j = require_s(s, i)?;
-    let k = parse_checked(s, j, &PubidText)?;
-    parse_second_literal(s, k)
+    parse_id(s, at, &SecondLiteral)
 }
 
 // [82] NotationDecl between its keyword and its '>'.

@@ -1,13 +1,12 @@
 -- What is left to show of `parse_tokenized`. Assumes nothing.
-use Rattle.spec.specs.Reading.Readers.{on}
-use Rattle.spec.specs.Reading.Dtd.{word_among}
-use Rattle.decls.proofs.Keywords.{first_of, tabled}
+use Rattle.spec.specs.Reading.Dtd.{tokenized}
+use Rattle.decls.proofs.Keywords.{rows_all, tabled}
 use Rattle.decls.proofs.attlists.parse_tokenized.Goals as goal
 use mathlib.Core.Path.{refl}
 
+-- the table is the words in the written order: one computed test
 pub loop-keyword-init : goal.loop-keyword-init
-unfolding first_of word_among on
-loop-keyword-init c = refl
+loop-keyword-init c = rows_all tokenized _ refl _ _
 
 pub returns-in-Ok : goal.returns-in-Ok
 returns-in-Ok c = search tabled
