@@ -68,7 +68,8 @@ impl<'a> Checker<'a> {
             && let Some(doctype) = accepted.doctype
             && doctype.unread > 0
         {
-            for at in doctype.unread_places(document.text, self.manner.names) {
+            for unread in doctype.unread_entries(document.text, self.manner.names) {
+                let at = doctype.place_of(unread);
                 self.output.say(NotRead { document, at })?;
             }
         }

@@ -24,6 +24,7 @@ pub enum Failure {
 }
 
 impl Failure {
+    // Two causes, of which one names the file: a closure for each would be no plainer than the two arms.
     pub fn tell(self, rt: &HostRuntime, source: &Source) {
         match self {
             Failure::File(error) => fail(rt, source, error),

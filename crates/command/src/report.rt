@@ -23,9 +23,12 @@ impl<'a> Document<'a> {
 
     fn place(self, at: usize) -> Place<'a> {
         Place {
-            document: self,
-            at,
-            line: lines::line_of(self.text, at),
+            name: self.name,
+            shown: Shown {
+                text: self.text,
+                at,
+                line: lines::line_of(self.text, at),
+            },
         }
     }
 
@@ -54,12 +57,12 @@ impl<'a> Document<'a> {
         if let Some(encoding) = refused.encoding(self.text) {
             return writeln!(f, " (it looks like {encoding})");
         }
-        write!(f, "\n{}", place.shown())?;
+        write!(f, "\n{}", place.shown)?;
         match refused.opened {
             None => Ok(()),
             Some(at) => {
                 let place = self.place(at);
-                write!(f, "{place}: opened here\n{}", place.shown())
+                write!(f, "{place}: opened here\n{}", place.shown)
             }
         }
     }
@@ -68,30 +71,15 @@ impl<'a> Document<'a> {
 // A place of a file: FILE:LINE:COLUMN.
 #[derive(Clone, Copy)]
 struct Place<'a> {
-    document: Document<'a>,
-    at: usize,
-    line: usize,
-}
-
-impl<'a> Place<'a> {
-    fn shown(&self) -> Shown<'a> {
-        Shown {
-            text: self.document.text,
-            at: self.at,
-            line: self.line,
-        }
-    }
+    name: &'a [u8],
+    shown: Shown<'a>,
 }
 
 impl fmt::Display for Place<'_> {
     fn fmt<W: fmt::Write>(&self, f: &mut Formatter<W>) -> fmt::Result {
-        let name = Escaped(self.document.name);
-        let line = self.line;
-        write!(
-            f,
-            "{name}:{line}:{}",
-            lines::column_of(self.document.text, self.at)
-        )
+        let name = Escaped(self.name);
+        let Shown { text, at, line } = self.shown;
+        write!(f, "{name}:{line}:{}", lines::column_of(text, at))
     }
 }
 
@@ -121,6 +109,6 @@ pub struct NotRead<'a> {
 impl fmt::Display for NotRead<'_> {
     fn fmt<W: fmt::Write>(&self, f: &mut Formatter<W>) -> fmt::Result {
         let place = self.document.place(self.at);
-        write!(f, "{place}: not read\n{}", place.shown())
+        write!(f, "{place}: not read\n{}", place.shown)
     }
 }

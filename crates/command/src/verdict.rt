@@ -1,11 +1,8 @@
 // The library's verdict on a file, with places counted from behind the byte order mark.
-ghost use Rattle.std.specs.Prelude.{◌-◌, length};
-ghost use Rattle.std.specs.Iterator.{at_most};
-
 use classes::Names;
 use document::{check_document, mark_length};
 use encodings::{Wide, looks_like};
-use entries::{first_place, next_unread};
+use entries::{Unread, UnreadEntries};
 use error::Refusal;
 
 // Not the library's: places are counted from behind the mark here, and the command has no use for the root.
@@ -33,6 +30,7 @@ pub struct Refused {
 // Judges what is held of a file, which is whole or goes on.
 pub fn judge(held: &[u8], whole: bool, names: Names) -> Result<Accepted, Refused> {
     let mark = mark_length(held);
+    // Field by field, since these are other records than the library's: their places count from behind the mark.
     match check_document(held, whole, names) {
         Ok(said) => Ok(Accepted {
             doctype: said.doctype.map(|text| Doctype {
@@ -74,37 +72,14 @@ impl Refused {
 }
 
 impl Doctype {
-    // The places of the declarations that were not read.
-    pub fn unread_places(self, text: &[u8], names: Names) -> UnreadPlaces<'_> {
+    // The declarations that were not read.
+    pub fn unread_entries(self, text: &[u8], names: Names) -> UnreadEntries<'_> {
         let part = text.get(self.start..self.end).unwrap_or_default();
-        UnreadPlaces {
-            start: self.start,
-            part,
-            names,
-            at: first_place(part),
-            pe_used: false,
-        }
+        UnreadEntries::new(part, names)
     }
-}
 
-#[derive(Clone, Copy)]
-pub struct UnreadPlaces<'a> {
-    start: usize,
-    part: &'a [u8],
-    names: Names,
-    at: usize,
-    pe_used: bool,
-}
-
-impl Iterator for UnreadPlaces<'_> {
-    type Item = usize;
-
-    ghost remaining = { λ s. at_most (length s.part.now - s.at) };
-
-    fn next(&mut self) -> Option<usize> {
-        let unread = next_unread(self.part, self.at, self.pe_used, self.names)?;
-        self.at = unread.past;
-        self.pe_used = unread.pe_used;
-        Some(self.start.saturating_add(unread.first))
+    // Where one of them stands: its own places count from the DOCTYPE's start.
+    pub fn place_of(self, unread: Unread) -> usize {
+        self.start.saturating_add(unread.first)
     }
 }

@@ -2,14 +2,14 @@
 use mathlib.Core.Path.{◌≡◌, refl, sym, ◌∙◌, ap}
 use mathlib.Core.Bool.{Bool, false}
 use mathlib.Core.List.{List, [], ◌∷◌}
-use Prim.Native.Nat.{ℕ, suc, ◌+◌, ◌-◌, ◌^◌, ◌≤◌, ◌<◌}
-use native.Mathlib.Nat.{add-zero, zero-add}
+use Prim.Native.Nat.{ℕ, suc, ◌+◌, ◌^◌, ◌<◌}
 use native.Mathlib.Omega.{arith}
 use borrow.Author.Rules.{rules}
 use mir.Syntax.{w64}
 use mir.Val.{Fits}
 use lib.ListN.{length, drop}
 use Rattle.std.specs.Prelude.{Option, Some, None}
+use Rattle.std.specs.Iterator.{Drains}
 use Rattle.spec.specs.Grammar.Division.{Entry}
 use Rattle.spec.specs.Grammar.Languages.{one_of}
 use Rattle.spec.specs.Grammar.Names.{Dialect}
@@ -24,8 +24,10 @@ use Rattle.spec.proofs.Division.Delimited.{from_end}
 use Rattle.spec.proofs.Division.Unread.{none_unread}
 use Rattle.search.specs.Places.{found, place_from}
 use Rattle.search.proofs.Placing.{from_nowhere, from_here}
-use Rattle.entries.specs.Walk.{walk_start, after_open, unread_from, listed_by, Finds}
+use Rattle.entries.specs.Walk.{walk_start, after_open, unread_from}
+use Rattle.entries.specs.Left.{unread_left, GivesUnread}
 use Rattle.entries.specs.declared.walk.Unread.{Unread}
+use Rattle.entries.specs.declared.count.UnreadEntries.{UnreadEntries}
 
 -- Where the walk begins: o is what subset_open answered.
 module _ (s : List ℕ) (o : Option ℕ) (a : found o ≡ place_from subset_open s 0) where
@@ -53,41 +55,20 @@ start_declares D s = go (subset_open s)
     go (at i) = refl
     go nowhere = sym (ap (entries_from D (length s)) (drop_end s (length s) (omega arith)) ∙ from_end D (length s))
 
--- So many are counted up to i, and W in all; u is the next.
-module _ (D : Dialect) (s : List ℕ) (pe : Bool) (i n : ℕ) (r : Option Unread) (a : Finds D s pe i r) where
-  module _ (W : ℕ) (c : n + length (unread_from D s pe i) ≡ W) where
-    pub count_end : r ≡ None → n ≡ W
-    count_end e = sym (ap (λ (es : List Entry). n + length es) (sym a.list ∙ ap (listed_by D s) e) ∙ add-zero n) ∙ c
-
-    pub count_go : (u : Unread) → r ≡ Some u → n + 1 + length (unread_from D s u.pe_used u.past) ≡ W
-    count_go u e =
-        let z : n + suc (length (unread_from D s u.pe_used u.past)) ≡ W = sym (ap (λ (es : List Entry). n + length es) (sym a.list ∙ ap (listed_by D s) e)) ∙ c in
-        omega arith
-
-  -- no more than bytes were passed
-  module _ (u : Unread) (e : r ≡ Some u) (l : n ≤ i) where
-    pub count_within : n + 1 ≤ u.past
-    count_within = let (x, y, z) = a.onward u e in omega arith
-
-    pub count_fits : length s < 2 ^ 64 → Fits w64 (n + 1)
-    count_fits k = let (x, y, z) = a.onward u e in omega arith
-
-pub count_less : (D : Dialect) (s : List ℕ) (pe : Bool) (i : ℕ) (r : Option Unread) (u : Unread) → Finds D s pe i r → r ≡ Some u → length s - u.past < length s - i
-count_less D s pe i r u a e = let (x, y, z) = a.onward u e in omega arith
-
-pub from_zero : (n : ℕ) → 0 + n ≡ n
-from_zero n = zero-add n
+-- calls of the iterator until it gives none give as many as it had left
+drained : (us : List Unread) (walk : UnreadEntries) → Drains GivesUnread walk us → length us ≡ length (unread_left walk)
+drained [] walk d = sym (ap length (ap unread_left d.1.1 ∙ d.1.2.step.0))
+drained (u ∷ us) walk d = ap suc (drained us d.1.1.0 (d.0, (d.1.0, d.1.1.2, d.1.2))) ∙ sym (ap length d.1.1.1.step)
 
 -- the whole text: without '%' none, else what is counted from its first entry on
 pub count_none : (D : Dialect) (s : List ℕ) (t : Bool) → t ≡ contains (37 ∷ []) s → t ≡ false → 0 ≡ length (unread_entries D s false (declarations D s))
 count_none D s t e f = sym (ap length (none_unread D s (sym e ∙ f)))
 
-pub count_all : (D : Dialect) (s : List ℕ) (n i : ℕ) → i ≡ walk_start s → n ≡ length (unread_from D s false i) → n ≡ length (unread_entries D s false (declarations D s))
+pub count_all : (D : Dialect) (s : List ℕ) (n : ℕ) (walk : UnreadEntries)
+    → unread_left walk ≡ unread_from D s false (walk_start s)
+    → (us : List Unread) × Drains GivesUnread walk us × (n ≡ length us)
+    → n ≡ length (unread_entries D s false (declarations D s))
 unfolding unread_from
-count_all D s n i e f = f ∙ ap (λ (k : ℕ). length (unread_entries D s false (entries_from D k (drop k s)))) e ∙ sym (ap (λ (es : List Entry). length (unread_entries D s false es)) (start_declares D s))
+count_all D s n walk e (us, d, f) = f ∙ drained us walk d ∙ ap length e ∙ sym (ap (λ (es : List Entry). length (unread_entries D s false es)) (start_declares D s))
 
 pub ruleset starting = (start_none, start_after, start_fits, rules)
-
-pub ruleset counting = (count_end, count_go, count_within, count_fits, count_less, from_zero, rules)
-
-pub ruleset whole = (count_none, count_all, rules)

@@ -23,7 +23,7 @@ use Rattle.spec.proofs.Base.Places.{drop_take}
 use Rattle.spec.proofs.Division.Delimited.{entry_some, from_some, from_none}
 use Rattle.spec.proofs.Division.Unread.{entry_room}
 use Rattle.spec.proofs.Inside.Readers.{in_entry}
-use Rattle.error.specs.Read.{said, read, Answer, refused}
+use Rattle.error.specs.Read.{said, read, Answer}
 use Rattle.error.specs.declared.Fault.{Fault}
 use Rattle.error.proofs.Laws.{was_ok, was_err}
 use Rattle.entries.specs.Kinds.{kind_of, keyword_size, referred}
@@ -41,10 +41,6 @@ first_of (Some u) = u.first
 past_of : Option Unread → ℕ
 past_of None = 0
 past_of (Some u) = u.past
-
--- The promise fixes the answer.
-pub fixed : (D : Dialect) (s : List ℕ) (pe : Bool) (i : ℕ) (r r' : Option Unread) → Finds D s pe i r → Finds D s pe i r' → r ≡ r'
-fixed D s pe i r r' a b = a.answer ∙ sym b.answer
 
 -- what goes unread is no reference
 unread_refers : (D : Dialect) (pe : Bool) (k : Kind) (y : List ℕ) → goes_unread D pe k y ≡ true → refers k ≡ false

@@ -24,6 +24,10 @@ pub record Holds (k : Kind) (s : List ℕ) (first past : ℕ) : Type 0 where
   pub room : first + keyword_size k < past
   pub within : past ≤ length s
 
+-- the declaration that an answer tells of
+abbrev pub entry_told : List ℕ → Unread → Entry
+entry_told s u = record { kind = kind_at (drop u.first s); first = u.first; past = u.past }
+
 module _ (D : Dialect) where
   -- whether what stands between two places goes unread
   unfoldable pub unread_there : Bool → Kind → List ℕ → ℕ → ℕ → Bool
@@ -45,7 +49,7 @@ module _ (D : Dialect) where
   -- the list that an answer tells of: none; or an entry, and those that go unread after it
   abbrev pub listed_by : List ℕ → Option Unread → List Entry
   listed_by s None = []
-  listed_by s (Some u) = record { kind = kind_at (drop u.first s); first = u.first; past = u.past } ∷ unread_from s u.pe_used u.past
+  listed_by s (Some u) = entry_told s u ∷ unread_from s u.pe_used u.past
 
   -- the answer from a place on: it is the first that goes unread, it tells of the very list, and what it tells of lies further on in the
   -- text

@@ -1,11 +1,12 @@
-// How many declarations of a DOCTYPE go unread, and where the walk over its entries begins.
-ghost use Rattle.std.specs.Prelude.{◌≡◌, false, length};
+// The declarations of a DOCTYPE's text that go unread, one after another: where the walk over them begins, and how many they are.
+ghost use Rattle.std.specs.Prelude.{◌≡◌, ◌-◌, false, length};
+ghost use Rattle.std.specs.Iterator.{at_most};
 ghost use Rattle.spec.specs.Reading.Entries.{declarations};
 ghost use Rattle.spec.specs.Unread.{unread_entries};
 ghost use Rattle.classes.specs.Classes.{dialect};
 ghost use Rattle.entries.specs.Walk.{walk_start, unread_from};
 
-use crate::walk::next_unread;
+use crate::walk::{Unread, next_unread};
 use classes::Names;
 use scan::subset_open;
 use search::has_byte;
@@ -21,30 +22,58 @@ pub fn first_place(s: &[u8]) -> usize
     }
 }
 
-// How many go unread from `from` on, where no reference came before. An iterator over the walk would carry the same three values, and need
-// laws that say of it what next_unread's contract says.
-fn count_from(s: &[u8], from: usize, names: Names) -> usize
-    ensures { result ≡ length (unread_from (dialect names) s.now false from) }
-{
-    let mut n: usize = 0;
-    let mut pe = false;
-    let mut i = from;
-    while let Some(u) = next_unread(s, i, pe, names) {
-        n += 1;
-        pe = u.pe_used;
-        i = u.past;
+// The walk over a DOCTYPE's text, which stands at `place`; `pe_used` says whether a reference came before that.
+#[derive(Clone, Copy, Debug)]
+pub struct UnreadEntries<'a> {
+    text: &'a [u8],
+    place: usize,
+    pe_used: bool,
+    names: Names,
+}
+
+impl<'a> UnreadEntries<'a> {
+    ghost use Rattle.entries.specs.Left.{unread_left};
+
+    // No reference comes before the first entry.
+    #[tactic(auto, unfolding(crate::specs::Left::unread_left))]
+    pub fn new(text: &'a [u8], names: Names) -> UnreadEntries<'a>
+        ensures { unread_left result ≡ unread_from (dialect names) text.now false (walk_start text.now) }
+    {
+        UnreadEntries {
+            text,
+            place: first_place(text),
+            pe_used: false,
+            names,
+        }
     }
-    n
+}
+
+impl Iterator for UnreadEntries<'_> {
+    ghost use Rattle.entries.specs.Left.{GivesUnread};
+
+    type Item = Unread;
+
+    ghost next_gives = { GivesUnread };
+
+    // Each item takes a byte or more of the text.
+    ghost remaining = { λ walk. at_most (length walk.text.now - walk.place) };
+
+    #[tactic(auto, unfolding(crate::specs::Left::unread_left))]
+    fn next(&mut self) -> Option<Unread> {
+        let unread = next_unread(self.text, self.place, self.pe_used, self.names)?;
+        self.place = unread.past;
+        self.pe_used = unread.pe_used;
+        Some(unread)
+    }
 }
 
 // How many declarations of a DOCTYPE's text go unread. Most texts have no '%', and one search tells that none does.
-#[tactic(auto, using(crate::proofs::Counting::whole))]
+#[tactic(auto, using(crate::proofs::Counting::count_none))]
 pub fn count_unread(s: &[u8], names: Names) -> usize
     ensures { result ≡ length (unread_entries (dialect names) s.now false (declarations (dialect names) s.now)) }
 {
     if has_byte(s, b'%') {
-        let from = first_place(s);
-        return count_from(s, from, names);
+        return UnreadEntries::new(s, names).count();
     }
     0
 }

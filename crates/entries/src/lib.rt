@@ -6,6 +6,6 @@ mod count;
 mod kinds;
 mod walk;
 
-pub use count::{count_unread, first_place};
+pub use count::{UnreadEntries, count_unread, first_place};
 pub use kinds::{Kind, entry_end, kind_at};
 pub use walk::{Unread, next_unread};
