@@ -18,10 +18,10 @@ pub fn ask(gate: &mut Gate, word: &[u8], wanted: &[u8], text: &[u8]) -> Option<A
             *gate = record(wanted);
             Reply::Letter('-')
         }
-        b"decl" => gate.decl(text).into(),
-        b"doctype0" => gate.doctype(0, text).into(),
-        b"doctype1" => gate.doctype(1, text).into(),
-        b"doctype2" => gate.doctype(2, text).into(),
+        b"decl" => Reply::Checked(gate.decl(text)),
+        b"doctype0" => Reply::Docks(gate.doctype(0, text)),
+        b"doctype1" => Reply::Docks(gate.doctype(1, text)),
+        b"doctype2" => Reply::Docks(gate.doctype(2, text)),
         _ => {
             return calls::ask(word, text).map(|reply| Answer {
                 reply,
