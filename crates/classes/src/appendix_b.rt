@@ -33,7 +33,8 @@ fn is_rare_letter(c: u32) -> bool
     in_ranges(&BASE, d) || in_ranges(&IDEOGRAPHIC, d)
 }
 
-// [84] Letter ::= BaseChar | Ideographic
+// [84] Letter ::= BaseChar | Ideographic. This class and the three like it are a quick test and the rest: one function over both tests would
+// be that line again, with a call more around it.
 pub fn is_letter(c: u32) -> bool
     ensures { result ≡ letter c }
 {

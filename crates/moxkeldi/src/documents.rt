@@ -62,7 +62,7 @@ fn number(verdict: Verdict) -> u8
     }
 }
 
-// By these names.
+// By these names; the number, since C takes one.
 fn judge(text: &[u8], verdict: &mut [usize; 8], names: Names) -> u8
     ensures { JudgesInto (dialect names) text.now result verdict.new }
 {

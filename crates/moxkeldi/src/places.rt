@@ -12,7 +12,7 @@ ghost use Rattle.error.specs.Read.{answer_number, answer_place};
 use classes::Names;
 use error::Answer;
 
-// The place in *place, and the number.
+// The place in *place, and the number, since C takes numbers.
 fn tell(answer: Answer, place: &mut usize) -> u8
     ensures number { result ≡ answer_number answer }
     ensures place { place.new ≡ answer_place answer }
