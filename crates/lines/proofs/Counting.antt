@@ -16,10 +16,11 @@ use Rattle.std.specs.List.{count_by, prefix_len, take_while}
 use Rattle.spec.specs.Basics.{pick}
 use Rattle.spec.specs.Reading.Checks.{all_of}
 use Rattle.spec.specs.Reading.Readers.{run}
+use Rattle.spec.specs.Reading.Utf8.{tail}
 use Rattle.spec.proofs.Base.Places.{drop_at, drop_end}
 use Rattle.spec.proofs.Base.Tests.{eqb_no}
 use Rattle.spec.proofs.Inside.Ways.{take_most}
-use Rattle.lines.specs.Lines.{ends_line, line_ends, on_line, last_line, continues, characters, line, column}
+use Rattle.lines.specs.Lines.{ends_line, line_ends, on_line, last_line, characters, line, column}
 
 -- no more lines end than there are bytes
 ends_short : (a : ℕ) (w : List ℕ) → line_ends a w ≤ length w
@@ -88,10 +89,10 @@ last_other b f (a ∷ u) = go (all_of on_line (a ∷ u)) (all_snoc (a ∷ u) b �
     go true e f = rw e
     go false e f = rw (e, f)
 
-characters_snoc : (u : List ℕ) (b : ℕ) → characters (u ++ (b ∷ [])) ≡ pick (continues b) (characters u) (suc (characters u))
+characters_snoc : (u : List ℕ) (b : ℕ) → characters (u ++ (b ∷ [])) ≡ pick (tail b) (characters u) (suc (characters u))
 unfolding characters
 characters_snoc [] b = refl
-characters_snoc (a ∷ u) b = go (continues a) (continues b) (characters_snoc u b)
+characters_snoc (a ∷ u) b = go (tail a) (tail b) (characters_snoc u b)
   where
     go : (x y : Bool) → characters (u ++ (b ∷ [])) ≡ pick y (characters u) (suc (characters u))
         → pick x (characters (u ++ (b ∷ []))) (suc (characters (u ++ (b ∷ [])))) ≡ pick y (pick x (characters u) (suc (characters u))) (suc (pick x (characters u) (suc (characters u))))
@@ -101,7 +102,7 @@ characters_snoc (a ∷ u) b = go (continues a) (continues b) (characters_snoc u 
     go false false e = ap suc e
 
 -- so the characters of the last line are counted back from the end
-back : (u : List ℕ) → count_by (λ b. not (continues b)) (take_while on_line u) ≡ characters (last_line (reverse u))
+back : (u : List ℕ) → count_by (λ b. not (tail b)) (take_while on_line u) ≡ characters (last_line (reverse u))
 unfolding characters last_line
 back [] = refl
 back (b ∷ u) = go (on_line b) refl (back u)
@@ -110,13 +111,13 @@ back (b ∷ u) = go (on_line b) refl (back u)
     step true h = omega arith
     step false h = omega arith
 
-    go : (t : Bool) → on_line b ≡ t → count_by (λ d. not (continues d)) (take_while on_line u) ≡ characters (last_line (reverse u))
-        → count_by (λ d. not (continues d)) (take_while on_line (b ∷ u)) ≡ characters (last_line (reverse (b ∷ u)))
-    go true e h = rw (take_while-cons on_line b u, e, reverse-append (b ∷ []) u, last_other b e (reverse u), characters_snoc (last_line (reverse u)) b, sum_by-cons (λ d. cond (not (continues d)) 1 0) b (take_while on_line u)) (step (continues b) h)
+    go : (t : Bool) → on_line b ≡ t → count_by (λ d. not (tail d)) (take_while on_line u) ≡ characters (last_line (reverse u))
+        → count_by (λ d. not (tail d)) (take_while on_line (b ∷ u)) ≡ characters (last_line (reverse (b ∷ u)))
+    go true e h = rw (take_while-cons on_line b u, e, reverse-append (b ∷ []) u, last_other b e (reverse u), characters_snoc (last_line (reverse u)) b, sum_by-cons (λ d. cond (not (tail d)) 1 0) b (take_while on_line u)) (step (tail b) h)
     go false e h = rw (take_while-cons on_line b u, e, reverse-append (b ∷ []) u, last_break b e (reverse u))
 
 -- n is the characters of the last line before the place, w what stands before it
-module _ (s w : List ℕ) (at n : ℕ) (counted : n ≡ count_by (λ b. not (continues b)) (take_while on_line (reverse w))) (bytes : w ≡ take at s) where
+module _ (s w : List ℕ) (at n : ℕ) (counted : n ≡ count_by (λ b. not (tail b)) (take_while on_line (reverse w))) (bytes : w ≡ take at s) where
   counted_back : n ≡ characters (last_line (take at s))
   counted_back = counted ∙ back (reverse w) ∙ (rw (reverse-reverse, bytes))
 
@@ -126,7 +127,7 @@ module _ (s w : List ℕ) (at n : ℕ) (counted : n ≡ count_by (λ b. not (con
 
   pub column_fits : length s * 1 < 2 ^ 63 → Fits w64 (1 + n)
   column_fits h =
-      let k = count_by-le-length (λ b. not (continues b)) (take_while on_line (reverse w)) in
+      let k = count_by-le-length (λ b. not (tail b)) (take_while on_line (reverse w)) in
       let l = take_most (prefix_len on_line (reverse w)) (reverse w) in
       let m = take_most at s in
       omega (arith, counted, length-reverse w, ap length bytes)

@@ -1,8 +1,9 @@
 -- The line and the column of a place, both from 1. These rules are ours, not the Rust's; what ends a line is W3C XML 1.0, section 2.11:
 -- a CR, an LF, or the two together. A place past the end counts as the end. Assumes nothing.
 use Rattle.std.specs.Prelude.{Bool, ◌&&◌, ◌||◌, not, List, [], ◌∷◌, ℕ, suc, ◌+◌, eqb, take}
-use Rattle.spec.specs.Basics.{pick, within}
+use Rattle.spec.specs.Basics.{pick}
 use Rattle.spec.specs.Reading.Checks.{all_of}
+use Rattle.spec.specs.Reading.Utf8.{tail}
 
 -- a CR ends a line, and so does an LF, but not one that a CR stands directly before: b is the byte, a the one before it
 abbrev pub ends_line : ℕ → ℕ → Bool
@@ -22,14 +23,10 @@ unfoldable pub last_line : List ℕ → List ℕ
 last_line [] = []
 last_line (b ∷ w) = pick (all_of on_line (b ∷ w)) (b ∷ w) (last_line w)
 
--- a byte that goes on with a character of UTF-8
-abbrev pub continues : ℕ → Bool
-continues b = within 128 191 b
-
--- how many characters stand in a text; a character counts at the byte that begins it
+-- how many characters stand in a text; a character counts at the byte that begins it, and no tail of UTF-8 does
 unfoldable pub characters : List ℕ → ℕ
 characters [] = 0
-characters (b ∷ w) = pick (continues b) (characters w) (suc (characters w))
+characters (b ∷ w) = pick (tail b) (characters w) (suc (characters w))
 
 -- the lines that end before the place, and one more
 unfoldable pub line : List ℕ → ℕ → ℕ

@@ -3,7 +3,10 @@
 #![tactic(auto)]
 
 ghost use Rattle.std.specs.Prelude.{◌≡◌, count_by, not, reverse, take, take_while};
-ghost use Rattle.lines.specs.Lines.{ends_line, on_line, continues, line, column};
+ghost use Rattle.spec.specs.Reading.Utf8.{tail};
+ghost use Rattle.lines.specs.Lines.{ends_line, on_line, line, column};
+
+use utf8::is_tail;
 
 // Whether the byte b, which a stands before, ends a line. After CR an LF ends none: the CR did.
 fn is_line_end(a: u8, b: u8) -> bool
@@ -17,13 +20,6 @@ fn is_on_line(b: u8) -> bool
     ensures { result ≡ on_line b }
 {
     !((b == b'\r') | (b == b'\n'))
-}
-
-// A byte that goes on with a character of UTF-8, and begins none.
-fn is_continuation(b: u8) -> bool
-    ensures { result ≡ continues b }
-{
-    (0x80 <= b) & (b <= 0xBF)
 }
 
 // The bytes before the place.
@@ -48,14 +44,14 @@ pub fn line_of(text: &[u8], at: usize) -> usize
     n
 }
 
-// The characters after the text's last CR or LF, counted back from its end.
+// The characters after the text's last CR or LF, counted back from its end, each at the byte that begins it.
 fn last_characters(text: &[u8]) -> usize
-    ensures { result ≡ count_by (λ b. not (continues b)) (take_while on_line (reverse text.now)) }
+    ensures { result ≡ count_by (λ b. not (tail b)) (take_while on_line (reverse text.now)) }
 {
     text.iter()
         .rev()
         .take_while(|&&b| is_on_line(b))
-        .filter(|&&b| !is_continuation(b))
+        .filter(|&&b| !is_tail(b))
         .count()
 }
 

@@ -25,8 +25,9 @@ fn past_block(s: &[u8], at: usize) -> Option<usize>
     Some(at + BLOCK)
 }
 
-// The place after all such blocks from `at` on. (The loop of crate `search` over its trait `Blocks`, which this crate could stand on, is no
-// substitute: the trait's blocks have 16 bytes and these 64, and what is passed here is said by UTF-8, not by a class of bytes.)
+// The place after all such blocks from `at` on. (Crate `search`, which this one could stand on, has such a loop too, but the blocks of its
+// trait `Blocks` have 16 bytes: by those ASCII takes 1.5 times as long. And an instance of that trait would be longer than this loop of
+// three lines.)
 #[tactic(auto, using(crate::proofs::Parts::skipping))]
 pub fn skip_blocks(s: &[u8], at: usize) -> usize
     ensures { Passed s.now at result }

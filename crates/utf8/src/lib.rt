@@ -36,8 +36,8 @@ pub fn byte_at(s: &[u8], at: usize) -> u8
     s.get(at).copied().unwrap_or(0)
 }
 
-// RFC 3629, section 4: UTF8-tail.
-fn is_tail(b: u8) -> bool
+// RFC 3629, section 4: UTF8-tail, a byte that goes on with a character and begins none.
+pub fn is_tail(b: u8) -> bool
     ensures { result ≡ tail b }
 {
     matches!(b, 0x80..=0xBF)
