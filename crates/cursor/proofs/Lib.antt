@@ -4,3 +4,5 @@ pub mod Parts
 pub mod Reading
 pub mod Quotes
 pub mod Checking
+pub mod Barred
+pub mod UpTo

@@ -26,9 +26,7 @@ pub fn parse_quoted(s: &[u8], at: usize) -> Answer
     let q = s[at];
     if (q == b'"') | (q == b'\'') {
         let from = at + 1;
-        let Some(e) = find_byte(s, from, q) else {
-            return Err(Refusal::Unterminated.at(from));
-        };
+        let e = find_byte(s, from, q).ok_or(Refusal::Unterminated.at(from))?;
         return Ok(e + 1);
     }
     Err(Refusal::NoLiteral.at(at))

@@ -5,6 +5,7 @@ ghost use Rattle.error.specs.Read.{said, read};
 
 use error::Answer;
 
+// A trait and no closure, since the contract of whoever is handed one speaks of its `reader`. An instance is a line for each member.
 pub trait Reads {
     // The reader of the order of reading that it is.
     ghost reader: { Self → Reader };

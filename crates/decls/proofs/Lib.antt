@@ -1,4 +1,3 @@
-pub mod Bars
 pub mod Keywords
 pub mod Looking
 pub mod Defining

@@ -4,21 +4,16 @@ ghost use Rattle.spec.specs.Reading.Dtd.{bar_list};
 ghost use Rattle.error.specs.Read.{said, read};
 ghost use Rattle.decls.specs.Items.{other_items};
 
-use cursor::{Reads, eat_str, skip_s};
+use cursor::{Reads, eat_str, past_bars, skip_s};
 use error::{Answer, Refusal};
-use search::at_keyword;
 
-// The items after the first, as many as bars stand there, and the ')' after them. White space may stand around an item.
-#[tactic(auto, using(crate::proofs::Bars::listing), unfolding(spec::specs::Reading::Dtd::after))]
+// The items after the first, as many as bars stand there, and the ')' after them. (A reader and a word, as read_doctype_text of document is:
+// no twins.)
+#[tactic(auto, using(cursor::proofs::Reading::reading))]
 fn parse_others<I: Reads>(s: &[u8], at: usize, item: &I) -> Answer
     ensures { said result ≡ read (other_items (I.reader item.now)) s.now at }
 {
-    let mut i = at;
-    while at_keyword(s, i, b"|") {
-        let from = skip_s(s, i + 1);
-        let to = item.read(s, from)?;
-        i = skip_s(s, to);
-    }
+    let i = past_bars(s, at, item)?;
     eat_str(s, i, b")", Refusal::Unexpected)
 }
 

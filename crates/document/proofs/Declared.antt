@@ -4,6 +4,7 @@ use mathlib.Core.Bool.{Bool, true}
 use mathlib.Core.List.{List, ◌++◌}
 use Prim.Native.Nat.{ℕ, ◌+◌, ◌^◌, ◌<◌}
 use native.Mathlib.Omega.{arith}
+use borrow.Author.Tests.{not-true, not-false}
 use mir.Syntax.{w64}
 use mir.Val.{Fits}
 use lib.ListN.{length, drop, length-drop}
@@ -15,8 +16,7 @@ use Rattle.spec.proofs.Agreement.Words.{starts_split}
 use Rattle.spec.proofs.Base.Tests.{and_left}
 use Rattle.error.specs.Read.{Said, read}
 use Rattle.error.proofs.Laws.{choose_yes}
-use Rattle.search.proofs.Words.{word_then}
-use Rattle.markup.proofs.UpTo.{upwards}
+use Rattle.search.proofs.Words.{word_then, by_words}
 
 -- where one begins, "<?" stands, and what B reads comes after it
 module _ (s : List ℕ) (at : ℕ) (b : Bool) (e : b ≡ is_declaration (drop at s)) (f : b ≡ true) where
@@ -34,4 +34,4 @@ module _ (s : List ℕ) (at : ℕ) (b : Bool) (e : b ≡ is_declaration (drop at
       choose_yes is_declaration (word_of (ascii "<?") n >> B) C s at b q e f (word_then (ascii "<?") s at true (rw g) n B q refl a)
 
 -- what the declaration's readers search
-pub ruleset declaring = (declared_fits, declared_then, upwards)
+pub ruleset declaring = (declared_fits, declared_then, not-true, not-false, by_words)

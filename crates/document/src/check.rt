@@ -123,7 +123,7 @@ impl Unmarked<'_> {
         }
     }
 
-    // What is found of it, in full.
+    // What is found of it, in full. (By map and map_err in place of the match the proof did not close.)
     #[tactic(auto, using(crate::proofs::Checking::checking))]
     fn spell(&self, finding: Finding, names: Names) -> Verdict
         ensures { told result ≡ spelled (dialect names) self.now.text.now self.now.mark (finds finding) }

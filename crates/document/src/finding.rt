@@ -1,5 +1,5 @@
 // What is found of a document, from the part of it that can be read and from what stands at that part's end.
-ghost use Rattle.std.specs.Prelude.{◌≡◌, Err};
+ghost use Rattle.std.specs.Prelude.{◌≡◌};
 ghost use Rattle.spec.specs.Reading.Verdict.{verdict_in, verdict};
 ghost use Rattle.classes.specs.Classes.{dialect};
 ghost use Rattle.encodings.specs.Codings.{of};
@@ -39,7 +39,8 @@ impl From<Fault> for Lost {
 // Where the prolog of a document ends, and its DOCTYPE; or why it is not accepted.
 pub type Finding = Result<Opening, Lost>;
 
-// In one coding: of the text only the part is read that consists of its characters.
+// In one coding: of the text only the part is read that consists of its characters. (By map_err with the match in its closure the
+// proof did not close.)
 #[tactic(auto, using(crate::proofs::Findings::finding))]
 fn find_in(text: &[u8], coding: Coding, whole: bool, names: Names) -> Finding
     ensures { finds result ≡ found (verdict_in (dialect names) (of coding) whole text.now) }

@@ -2,12 +2,12 @@
 use mathlib.Core.Path.{◌≡◌, refl, sym, ap, ◌∙◌}
 use mathlib.Core.Bool.{Bool, true, false, ◌&&◌, ◌||◌, true≢false}
 use mathlib.Core.List.{List, [], ◌∷◌}
-use Prim.Native.Nat.{ℕ, suc, ◌+◌, ◌-◌, ◌<◌, ◌≤◌}
+use Prim.Native.Nat.{ℕ, suc, ◌+◌, ◌-◌, ◌<◌}
 use native.Mathlib.Nat.{add-zero}
 use native.Mathlib.Omega.{arith}
 use borrow.Author.Rules.{rules}
 use lib.Dec.{eqb}
-use lib.ListN.{length, drop}
+use lib.ListN.{length, drop, length-drop}
 use lib.Seq.{drop-drop}
 use Rattle.std.specs.Prelude.{Option, Some, None, Ok, Err}
 use Rattle.spec.specs.Basics.{pick}
@@ -16,14 +16,13 @@ use Rattle.spec.specs.Reading.Refusals.{unterminated}
 use Rattle.spec.specs.Reading.Places.{outside}
 use Rattle.spec.specs.Reading.Readers.{starts, begins, contains, before}
 use Rattle.spec.specs.Reading.Dtd.{take_decl_body, has_pe_reference}
-use Rattle.spec.proofs.Agreement.Words.{starts_split}
-use Rattle.spec.proofs.Base.Places.{drop_end}
+use Rattle.spec.proofs.Agreement.Words.{before_within, starts_split}
 use Rattle.error.specs.Read.{passed, said, read, refused}
 use Rattle.error.specs.declared.Fault.{Fault}
 use Rattle.utf8.proofs.Points.{points}
 use Rattle.search.specs.FirstPlace.{first_place}
 use Rattle.search.specs.Places.{found, place_from, either}
-use Rattle.search.proofs.Finding.{starts_first, was_nowhere, was_here, here_onward, here_fits}
+use Rattle.search.proofs.Finding.{starts_first, was_nowhere, was_here, here_fits}
 use Rattle.search.proofs.Outside.{outside_one}
 use Rattle.search.proofs.Placing.{from_nowhere, from_here}
 
@@ -59,17 +58,13 @@ pe_first D (b ∷ w) = go (eqb b 37) refl (pe_first D w)
 
 -- The loop of has_pe_reference. The invariant: the bytes before i do not decide.
 module _ (D : Dialect) (t : List ℕ) (i : ℕ) (inv : has_pe_reference D (drop i t) ≡ has_pe_reference D t) where
-  pub pe_end : length t ≤ i → false ≡ has_pe_reference D t
-  unfolding has_pe_reference
-  pe_end h = rw (drop_end t i h) at inv
-
   -- r is where the next '%' stands
   module _ (r : Option ℕ) (a : found r ≡ first_place (37 ∷ []) t i) where
     pub pe_absent : r ≡ None → false ≡ has_pe_reference D t
     pe_absent e = sym (pe_none D (drop i t) (was_nowhere (37 ∷ []) t i r a e)) ∙ inv
 
-    pub pe_less : (j : ℕ) → r ≡ Some j → i < length t → length t - (j + 1) < length t - i
-    pe_less j e h = omega (arith, here_onward (37 ∷ []) t i r a j e)
+    pub pe_less : (j : ℕ) → r ≡ Some j → length t - (j + 1) < length t - i
+    pe_less j e = let (c, l) = was_here (37 ∷ []) t i r a j e in omega (arith, length-drop i t, before_within (37 ∷ []) (drop i t) c)
 
     module _ (j : ℕ) (e : r ≡ Some j) (b : Bool) (f : b ≡ begins D.start (drop (j + 1) t)) where
       percent_at : (c : Bool) → b ≡ c → c || has_pe_reference D (drop (j + 1) t) ≡ has_pe_reference D t
@@ -90,4 +85,4 @@ module _ (D : Dialect) (t : List ℕ) (i : ℕ) (inv : has_pe_reference D (drop 
 -- what the functions over a body search
 pub ruleset bodies_read = (body_open, body_end, rules)
 
-pub ruleset percents = (pe_end, pe_absent, pe_yes, pe_no, pe_less, here_fits, points, rules)
+pub ruleset percents = (pe_absent, pe_yes, pe_no, pe_less, here_fits, points, rules)

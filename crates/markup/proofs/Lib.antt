@@ -1,3 +1,3 @@
-pub mod UpTo
+pub mod Hyphens
 pub mod DeclBody
 pub mod Targets

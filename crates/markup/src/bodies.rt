@@ -16,10 +16,7 @@ use utf8::code_point;
 pub fn take_decl_body(s: &[u8], at: usize) -> Answer
     ensures { said result ≡ read take_decl_body s.now at }
 {
-    let Some(end) = outside_quotes(s, at, b'>', b'>') else {
-        return Err(Refusal::Unterminated.at(at));
-    };
-    Ok(end)
+    outside_quotes(s, at, b'>', b'>').ok_or(Refusal::Unterminated.at(at))
 }
 
 // Whether a NameStartChar stands at `at`.
@@ -40,10 +37,7 @@ pub fn has_pe_reference(t: &[u8], names: Names) -> bool
     ensures { result ≡ has_pe_reference (dialect names) t.now }
 {
     let mut i: usize = 0;
-    while i < t.len() {
-        let Some(j) = find_byte(t, i, b'%') else {
-            return false;
-        };
+    while let Some(j) = find_byte(t, i, b'%') {
         i = j + 1;
         if begins_name(t, i, names) {
             return true;

@@ -7,10 +7,10 @@ ghost use Rattle.classes.specs.Classes.{dialect};
 ghost use Rattle.markup.specs.Targets.{target_ends};
 
 use classes::Names;
-use cursor::is_space;
+use cursor::{Reads, is_space, parse_up_to};
 use error::{Answer, Refusal};
 use names::parse_name;
-use search::{at_keyword, find, find_byte};
+use search::{at_keyword, find_byte};
 
 // The target "xml", in any case.
 fn is_reserved(t: &[u8]) -> bool
@@ -49,18 +49,25 @@ fn check_pi(t: &[u8], at: usize, names: Names) -> Answer
     Ok(at)
 }
 
+// It as a reader, by the names of a dialect.
+#[derive(Clone, Copy)]
+struct InstructionText(Names);
+
+impl Reads for InstructionText {
+    ghost reader = { λ x. check_pi (dialect x.0) };
+
+    fn read(&self, t: &[u8], at: usize) -> Answer {
+        check_pi(t, at, self.0)
+    }
+}
+
 // parse_pi, [16] PI: from "<?" to the first "?>".
-#[tactic(auto, using(crate::proofs::UpTo::upwards), unfolding(spec::specs::Reading::Dtd::parse_pi))]
+#[tactic(auto, using(crate::proofs::Hyphens::marks), unfolding(spec::specs::Reading::Dtd::parse_pi))]
 pub fn parse_pi(s: &[u8], at: usize, names: Names) -> Answer
     ensures { said result ≡ read (parse_pi (dialect names)) s.now at }
 {
     if !at_keyword(s, at, b"<?") {
         return Err(Refusal::Unexpected.at(at));
     }
-    let from = at + 2;
-    let Some(j) = find(s, from, b"?>") else {
-        return Err(Refusal::Unterminated.at(from));
-    };
-    check_pi(&s[0..j], from, names)?;
-    Ok(j + 2)
+    parse_up_to(s, at + 2, b"?>", &InstructionText(names))
 }

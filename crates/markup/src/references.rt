@@ -11,7 +11,7 @@ use error::{Answer, Refusal};
 use search::at_keyword;
 
 // parse_pe_reference, [69] PEReference.
-#[tactic(auto, using(crate::proofs::UpTo::upwards), unfolding(spec::specs::Reading::Dtd::parse_pe_reference))]
+#[tactic(auto, using(crate::proofs::Hyphens::marks), unfolding(spec::specs::Reading::Dtd::parse_pe_reference))]
 pub fn parse_pe_reference(s: &[u8], at: usize, names: Names) -> Answer
     ensures { said result ≡ read (parse_pe_reference (dialect names)) s.now at }
 {

@@ -1,5 +1,5 @@
 // Content models: parse_contentspec, parse_mixed, parse_children, parse_cp and parse_group of dtd.rs (productions 46 to 51).
-// Text, place and names stay three parameters (classes/src/lib.rt says why).
+// Text, place and names stay three parameters (classes/src/lib.rt says why), and so does the height, which the readers of groups alone take.
 #![tactic(auto)]
 
 ghost use Rattle.std.specs.Prelude.{◌≡◌, [], ◌∷◌, drop, Ok};
@@ -11,7 +11,7 @@ ghost use Rattle.classes.specs.Classes.{dialect};
 ghost use Rattle.models.specs.Parts.{group_end, mixed_names, mixed_end, model};
 
 use classes::Names;
-use cursor::{eat_str, need_name, skip_s};
+use cursor::{Name, eat_str, need_name, past_bars, skip_s};
 use error::{Answer, Refusal};
 use search::at_keyword;
 use utf8::byte_at;
@@ -109,24 +109,13 @@ pub fn parse_children(s: &[u8], at: usize, names: Names) -> Answer
 }
 
 // [51] Mixed from its first '|' on: names, and then ')*'.
-#[tactic(auto, using(crate::proofs::Contentspecs::mixed_loop), unfolding(crate::specs::Parts::mixed_names, spec::specs::Reading::Dtd::after))]
+#[tactic(auto, using(cursor::proofs::Reading::reading), unfolding(crate::specs::Parts::mixed_names))]
 fn mixed_names(s: &[u8], at: usize, names: Names) -> Answer
     ensures { said result ≡ read (mixed_names (dialect names)) s.now at }
 {
-    let mut j = at;
-    while at_sign(s, j, b'|') {
-        let i = skip_s(s, j + 1);
-        let e = need_name(s, i, names)?;
-        j = skip_s(s, e);
-    }
-    if !at_sign(s, j, b')') {
-        return Err(Refusal::Unexpected.at(j));
-    }
-    let e = j + 1;
-    if at_sign(s, e, b'*') {
-        return Ok(e + 1);
-    }
-    Err(Refusal::BadConnector.at(e))
+    let j = past_bars(s, at, &Name(names))?;
+    let e = eat_str(s, j, b")", Refusal::Unexpected)?;
+    eat_str(s, e, b"*", Refusal::BadConnector)
 }
 
 // [51] Mixed after "#PCDATA" and white space: without names the '*' may stand or not.

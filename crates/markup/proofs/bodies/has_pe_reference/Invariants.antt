@@ -6,8 +6,8 @@ use Rattle.spec.specs.Reading.Dtd.{has_pe_reference}
 use Rattle.classes.specs.Classes.{dialect}
 use Rattle.markup.proofs.bodies.has_pe_reference.Given as goal
 
-abbrev pub invariant-loop-i : goal.invariant-loop-i
-invariant-loop-i l = has_pe_reference (dialect l.names) (drop l.i l.t) ≡ has_pe_reference (dialect l.names) l.t
+abbrev pub invariant-loop-j : goal.invariant-loop-j
+invariant-loop-j l = has_pe_reference (dialect l.names) (drop l.i l.t) ≡ has_pe_reference (dialect l.names) l.t
 
-abbrev pub decreases-loop-i : goal.decreases-loop-i
-decreases-loop-i l = length l.t - l.i
+abbrev pub decreases-loop-j : goal.decreases-loop-j
+decreases-loop-j l = length l.t - l.i

@@ -1,10 +1,9 @@
--- Everything up to the first place of a word, for any word and any check of what stands before it. Assumes nothing.
+-- The hyphens of a comment, and words whose length the code knows. Assumes nothing.
 use mathlib.Core.Path.{◌≡◌, refl, sym, ap, ◌∙◌}
 use mathlib.Core.Bool.{Bool, true, false, ◌||◌, true≢false}
 use mathlib.Core.List.{List, [], ◌∷◌, ◌++◌, append_assoc}
-use Prim.Native.Nat.{ℕ, suc, ◌+◌, ◌-◌}
-use Prim.Native.String.{String}
-use native.Mathlib.Nat.{add_assoc, add-zero}
+use Prim.Native.Nat.{ℕ, suc, ◌+◌}
+use native.Mathlib.Nat.{add-zero}
 use native.Mathlib.Omega.{arith}
 use borrow.Author.Tests.{not-true, not-false}
 use lib.ListN.{length, take, drop, take-append-drop}
@@ -13,44 +12,16 @@ use Rattle.std.specs.Prelude.{Option, Some, None, Ok, Err}
 use Rattle.spec.specs.Basics.{pick}
 use Rattle.spec.specs.Grammar.Languages.{ascii}
 use Rattle.spec.specs.Reading.Refusals.{Refusal, double_hyphen}
-use Rattle.spec.specs.Reading.Readers.{Result, ok, err, on_ok, nothing, refuse, starts, choose, word_of, contains, before, refuse_at, up_to}
+use Rattle.spec.specs.Reading.Readers.{nothing, starts, choose, word_of, contains, before, refuse_at, up_to}
 use Rattle.spec.specs.Reading.Dtd.{check_comment}
 use Rattle.spec.proofs.Base.Tests.{T→true, no→false}
 use Rattle.spec.proofs.Agreement.Words.{starts_self, starts_split}
-use Rattle.error.specs.Read.{passed, said, placed, read, Answer, refused}
+use Rattle.error.specs.Read.{passed, said, read, refused}
 use Rattle.error.specs.declared.Fault.{Fault}
-use Rattle.error.proofs.Laws.{was_ok, was_err}
 use Rattle.search.proofs.Words.{word_yes, word_no, by_words}
 use Rattle.search.specs.FirstPlace.{first_place}
 use Rattle.search.specs.Places.{found}
 use Rattle.search.proofs.Finding.{was_nowhere, was_here, places_found}
-use Rattle.cursor.proofs.Reading.{left_of}
-
--- the word k was looked for from a place on, which gave r; c is what the check answers where what stands before it is all there is
-module _ (k : String) (n : Refusal) (check : List ℕ → Result) (s : List ℕ) (at : ℕ) (r : Option ℕ) (a : found r ≡ first_place (ascii k) s at) where
-  pub up_to_nowhere : (x : Fault) → r ≡ None → said (Err x) ≡ refused n at → said (Err x) ≡ read (up_to k n check) s at
-  unfolding read up_to refuse
-  up_to_nowhere x b e = e ∙ (rw (was_nowhere (ascii k) s at r a b, add-zero))
-
-  module _ (j : ℕ) (q : Answer) (b : r ≡ Some j) (c : said q ≡ read check (take (j - 0) (drop 0 s)) at) where
-    up_to_here : (x : Result) → check (drop at (take (j - 0) (drop 0 s))) ≡ x → read (up_to k n check) s at ≡ placed at (on_ok x (λ _. ok (before (ascii k) (drop at s) + length (ascii k))))
-    unfolding read up_to
-    up_to_here x f =
-        let (g, h) = was_here (ascii k) s at r a j b in
-        let z : j - at ≡ before (ascii k) (drop at s) = omega arith in
-        rw (g, ← z, ← left_of at j s, f)
-
-    pub up_to_taken : (l o : ℕ) → q ≡ Ok o → l ≡ length (ascii k) → said (Ok (j + l)) ≡ read (up_to k n check) s at
-    unfolding said
-    up_to_taken l o e d =
-        let (i, (f, _)) = was_ok check (take (j - 0) (drop 0 s)) at o q c e in
-        let (g, h) = was_here (ascii k) s at r a j b in
-        rw (up_to_here (ok i) f, d, h, add_assoc)
-
-    pub up_to_refused : (x : Fault) → q ≡ Err x → said (Err x) ≡ read (up_to k n check) s at
-    up_to_refused x e =
-        let (y, (i, (f, g))) = was_err check (take (j - 0) (drop 0 s)) at x q c e in
-        g ∙ sym (up_to_here (err y i) f)
 
 -- a word that goes on stands only where its first part does, and not in what stands before the first place of that part
 starts_part : (p x w : List ℕ) → starts (p ++ x) w ≡ true → starts p w ≡ true
@@ -108,5 +79,5 @@ module _ (t : List ℕ) (at : ℕ) (r : Option ℕ) (a : found r ≡ first_place
   unfolding read said check_comment choose nothing
   comment_clean b = rw (was_nowhere (ascii "--") t at r a b, add-zero)
 
--- what code searches that reads up to a word
-pub ruleset upwards = (up_to_nowhere, up_to_taken, up_to_refused, comment_once, comment_twice, comment_clean, word_end, word_no, not-true, not-false, places_found, by_words)
+-- what code that reads comments and signs searches
+pub ruleset marks = (comment_once, comment_twice, comment_clean, word_end, word_no, not-true, not-false, places_found, by_words)
