@@ -5,11 +5,12 @@ use mathlib.Core.List.{List}
 use Prim.Native.Nat.{ℕ}
 use borrow.Author.Rules.{rules}
 use lib.ListN.{drop}
+use Rattle.std.specs.Prelude.{Option}
 use Rattle.spec.specs.Grammar.Languages.{ascii}
 use Rattle.spec.specs.Reading.Entries.{kind_at}
 use Rattle.spec.specs.Reading.Readers.{starts}
 use Rattle.error.proofs.Laws.{chain}
-use Rattle.entries.specs.Kinds.{kind_of, keyword_size, referred}
+use Rattle.entries.specs.Kinds.{kind_of, keyword_size, some_bytes, referred}
 use Rattle.entries.specs.declared.kinds.Kind.{Kind}
 use Rattle.entries.specs.declared.kinds.Kind.TheVariants.{Element, Attlist, Entity, Notation, Instruction, Comment, Reference}
 
@@ -50,8 +51,8 @@ module _ (s : List ℕ) (at : ℕ) (t₁ : Bool) (e₁ : t₁ ≡ starts (ascii 
 
 -- what is asked of a kind, case by case; each case computes
 module _ (kind k : Kind) (e : kind ≡ k) where
-  pub size_is : (n : ℕ) → n ≡ keyword_size (kind_of k) → n ≡ keyword_size (kind_of kind)
-  size_is n f = rw (e, f)
+  pub size_is : (r : Option ℕ) → r ≡ some_bytes (keyword_size (kind_of k)) → r ≡ some_bytes (keyword_size (kind_of kind))
+  size_is r f = rw (e, f)
 
   pub referred_is : (pe t : Bool) → t ≡ referred pe (kind_of k) → t ≡ referred pe (kind_of kind)
   referred_is pe t f = rw (e, f)

@@ -2,13 +2,14 @@
 use mathlib.Core.Path.{◌≡◌, refl, sym, ◌∙◌, ap}
 use mathlib.Core.Bool.{Bool, true, false, ◌||◌, true≢false, or-false, or_comm}
 use mathlib.Core.List.{List, [], ◌∷◌}
-use Prim.Native.Nat.{ℕ, ◌+◌, ◌-◌, ◌^◌, ◌≤◌, ◌<◌}
+use Prim.Native.Nat.{ℕ, zero, suc, ◌+◌, ◌-◌, ◌^◌, ◌≤◌, ◌<◌}
 use native.Mathlib.Omega.{arith}
 use borrow.Author.Rules.{rules}
 use mir.Syntax.{w64}
 use mir.Val.{Fits}
 use lib.ListN.{length, take, drop, length-drop}
 use lib.Seq.{slice, drop-drop, length-slice, take-take}
+use Rattle.std.specs.Option.{unwrap_or}
 use Rattle.std.specs.Prelude.{Option, Some, None, Ok, Err}
 use Rattle.spec.specs.Basics.{pick}
 use Rattle.spec.specs.Grammar.Characters.{space}
@@ -26,10 +27,13 @@ use Rattle.spec.proofs.Inside.Readers.{in_entry}
 use Rattle.error.specs.Read.{said, read, Answer}
 use Rattle.error.specs.declared.Fault.{Fault}
 use Rattle.error.proofs.Laws.{was_ok, was_err}
-use Rattle.entries.specs.Kinds.{kind_of, keyword_size, referred}
+use Rattle.entries.specs.Kinds.{kind_of, keyword_size, some_bytes, referred}
 use Rattle.entries.specs.Walk.{Holds, unread_there, unread_from, first_among, first_from, Finds}
 use Rattle.entries.specs.declared.kinds.Kind as Code
 use Rattle.entries.specs.declared.walk.Unread.{Unread}
+
+no_size : {n : ℕ} → ◌≡◌ {A = Option ℕ} None (Some n) → ⊥
+no_size e = let z : ◌≡◌ {A = ℕ} 0 1 = cc in omega arith
 
 none_here : {u : Unread} → ◌≡◌ {A = Option Unread} None (Some u) → ⊥
 none_here e = let z : ◌≡◌ {A = ℕ} 0 1 = cc in omega arith
@@ -66,7 +70,18 @@ body_part k s first past h =
     ∙ drop_take n (past - 1 - first) (drop first s)
     ∙ (λ i. take (o i) (drop-drop n first s i))
 
--- What is_unread looks at: the size of the keyword, and the part after it.
+-- what the keyword's size says: there is none, or it has bytes
+no_bytes : (m : ℕ) → None ≡ some_bytes m → m ≡ 0
+unfolding some_bytes
+no_bytes zero e = refl
+no_bytes (suc m) e = absurd (no_size e)
+
+bytes_of : (m n : ℕ) → Some n ≡ some_bytes m → (n ≡ m) × (m ≡ 0 → ⊥)
+unfolding some_bytes
+bytes_of zero n e = absurd (no_size (sym e))
+bytes_of (suc m) n e = (ap (λ (r : Option ℕ). unwrap_or r 0) e, λ (z : suc m ≡ 0). omega arith)
+
+-- What is_unread looks at: r is the size of the keyword, and after it the part.
 module _ (k : Kind) (s : List ℕ) (first past : ℕ) (h : Holds k s first past) where
   pub past_some : 1 ≤ past
   past_some = let r = h.room in omega arith
@@ -74,19 +89,19 @@ module _ (k : Kind) (s : List ℕ) (first past : ℕ) (h : Holds k s first past)
   pub past_within : past - 1 ≤ length s
   past_within = let w = h.within in omega arith
 
-  module _ (n : ℕ) (e : n ≡ keyword_size k) where
+  module _ (r : Option ℕ) (e : r ≡ some_bytes (keyword_size k)) (n : ℕ) (f : r ≡ Some n) where
     pub unread_fits : length s < 2 ^ 64 → Fits w64 (first + n)
-    unread_fits l = let r = h.room in let w = h.within in omega arith
+    unread_fits l = let (m, z) = bytes_of (keyword_size k) n (sym f ∙ e) in let r = h.room in let w = h.within in omega arith
 
     pub unread_part : first + n ≤ past - 1
-    unread_part = let r = h.room in omega arith
+    unread_part = let (m, z) = bytes_of (keyword_size k) n (sym f ∙ e) in let r = h.room in omega arith
 
--- the answer by the keyword's size n
-module _ (D : Dialect) (pe : Bool) (k : Kind) (s : List ℕ) (first past n : ℕ) (e : n ≡ keyword_size k) where
+-- the answer by the size
+module _ (D : Dialect) (pe : Bool) (k : Kind) (s : List ℕ) (first past : ℕ) (r : Option ℕ) (e : r ≡ some_bytes (keyword_size k)) where
   -- by kind: a declaration's keyword has bytes, and nothing else has one
-  size_none : n ≡ 0 → (y : List ℕ) → goes_unread D pe k y ≡ false
+  size_none : keyword_size k ≡ 0 → (y : List ℕ) → goes_unread D pe k y ≡ false
   unfolding keyword_size
-  size_none z y = go k (sym e ∙ z)
+  size_none z y = go k z
     where
       go : (k : Kind) → length (ascii (keyword k)) ≡ 0 → goes_unread D pe k y ≡ false
       go element f = absurd (let z : 9 ≡ 0 = f in omega arith)
@@ -97,9 +112,9 @@ module _ (D : Dialect) (pe : Bool) (k : Kind) (s : List ℕ) (first past n : ℕ
       go comment f = refl
       go reference f = refl
 
-  size_some : (n ≡ 0 → ⊥) → (y : List ℕ) → goes_unread D pe k y ≡ (pe || has_pe_reference D (body_of k y))
+  size_some : (keyword_size k ≡ 0 → ⊥) → (y : List ℕ) → goes_unread D pe k y ≡ (pe || has_pe_reference D (body_of k y))
   unfolding keyword_size
-  size_some z y = go k (λ f. z (e ∙ f))
+  size_some z y = go k z
     where
       go : (k : Kind) → (length (ascii (keyword k)) ≡ 0 → ⊥) → goes_unread D pe k y ≡ (pe || has_pe_reference D (body_of k y))
       go element f = refl
@@ -110,18 +125,20 @@ module _ (D : Dialect) (pe : Bool) (k : Kind) (s : List ℕ) (first past n : ℕ
       go comment f = absurd (f refl)
       go reference f = absurd (f refl)
 
-  pub unread_none : n ≡ 0 → false ≡ unread_there D pe k s first past
+  pub unread_none : r ≡ None → false ≡ unread_there D pe k s first past
   unfolding unread_there
-  unread_none z = sym (size_none z (slice first past s))
+  unread_none z = sym (size_none (no_bytes (keyword_size k) (sym z ∙ e)) (slice first past s))
 
-  module _ (z : n ≡ 0 → ⊥) where
+  module _ (n : ℕ) (z : r ≡ Some n) where
     pub unread_used : pe ≡ true → true ≡ unread_there D pe k s first past
     unfolding unread_there
-    unread_used f = sym (size_some z (slice first past s) ∙ (rw f))
+    unread_used f = sym (size_some (bytes_of (keyword_size k) n (sym z ∙ e)).1 (slice first past s) ∙ (rw f))
 
     pub unread_body : Holds k s first past → pe ≡ false → (t : Bool) → t ≡ has_pe_reference D (take (past - 1 - (first + n)) (drop (first + n) s)) → t ≡ unread_there D pe k s first past
     unfolding unread_there
-    unread_body h f t g = g ∙ ap (λ (i : ℕ). has_pe_reference D (take (past - 1 - (first + i)) (drop (first + i) s))) e ∙ sym (size_some z (slice first past s) ∙ (rw (f, body_part k s first past h)))
+    unread_body h f t g =
+        let (m, o) = bytes_of (keyword_size k) n (sym z ∙ e) in
+        g ∙ ap (λ (i : ℕ). has_pe_reference D (take (past - 1 - (first + i)) (drop (first + i) s))) m ∙ sym (size_some o (slice first past s) ∙ (rw (f, body_part k s first past h)))
 
 -- here is the place after white space at i, and r where an entry that begins there ends
 module _ (D : Dialect) (s : List ℕ) (i here : ℕ) (h : here ≡ i + run space (drop i s)) (r : Answer) (a : said r ≡ read (one_entry D) s here) where
@@ -214,6 +231,6 @@ module _ (D : Dialect) (s : List ℕ) (i here : ℕ) (h : here ≡ i + run space
           unfolding unread_from
           walk_rest U x = ap (λ (b : Bool). unread_entries D s b (entries_from D j (drop j s))) on ∙ sym (rest_met ∙ (rw z)) ∙ x
 
-pub ruleset telling = (past_some, past_within, unread_fits, unread_part, unread_none, unread_used, unread_body, rules)
+pub ruleset telling = (past_some, past_within, unread_none, unread_used, rules)
 
 pub ruleset walking = (walk_none, walk_less, walk_onward, walk_holds, walk_hit, walk_first, walk_rest, rules)

@@ -1,5 +1,5 @@
 -- The code's kinds of entries, and what is asked of a kind. Assumes nothing.
-use Rattle.std.specs.Prelude.{Bool, ◌||◌, ℕ, length}
+use Rattle.std.specs.Prelude.{Bool, ◌||◌, Option, Some, None, ℕ, zero, suc, length}
 use Rattle.spec.specs.Grammar.Division as Division
 use Rattle.spec.specs.Grammar.Division.{refers, keyword}
 use Rattle.spec.specs.Grammar.Languages.{ascii}
@@ -18,6 +18,11 @@ kind_of Reference = Division.reference
 -- the bytes of a declaration's keyword; none for what is no declaration
 unfoldable pub keyword_size : Division.Kind → ℕ
 keyword_size k = length (ascii (keyword k))
+
+-- a size as the code has it: `None` for 0, which is the size of nothing
+unfoldable pub some_bytes : ℕ → Option ℕ
+some_bytes zero = None
+some_bytes (suc n) = Some (suc n)
 
 -- whether a parameter-entity reference came before what follows an entry of this kind, by whether one came before it
 unfoldable pub referred : Bool → Division.Kind → Bool

@@ -4,7 +4,7 @@ ghost use Rattle.std.specs.Prelude.{◌≡◌, drop};
 ghost use Rattle.spec.specs.Reading.Entries.{kind_at, one_entry};
 ghost use Rattle.error.specs.Read.{said, read};
 ghost use Rattle.classes.specs.Classes.{dialect};
-ghost use Rattle.entries.specs.Kinds.{kind_of, keyword_size, referred};
+ghost use Rattle.entries.specs.Kinds.{kind_of, keyword_size, some_bytes, referred};
 
 use classes::Names;
 use error::Answer;
@@ -61,18 +61,18 @@ pub fn entry_end(s: &[u8], at: usize, names: Names) -> Answer
     parse_markup_decl(s, at, true, names)
 }
 
-// How many bytes of a declaration stand before its body; 0 for what is no declaration, and so has no body.
-pub fn keyword_size(kind: Kind) -> usize
-    ensures { result ≡ keyword_size (kind_of kind) }
+// How many bytes of a declaration stand before its body. What is no declaration has no body.
+pub fn keyword_size(kind: Kind) -> Option<usize>
+    ensures { result ≡ some_bytes (keyword_size (kind_of kind)) }
 {
     match kind {
-        Kind::Element => 9,
-        Kind::Attlist => 9,
-        Kind::Entity => 8,
-        Kind::Notation => 10,
-        Kind::Instruction => 0,
-        Kind::Comment => 0,
-        Kind::Reference => 0,
+        Kind::Element => Some(9),
+        Kind::Attlist => Some(9),
+        Kind::Entity => Some(8),
+        Kind::Notation => Some(10),
+        Kind::Instruction => None,
+        Kind::Comment => None,
+        Kind::Reference => None,
     }
 }
 

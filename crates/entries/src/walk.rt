@@ -8,7 +8,6 @@ ghost use Rattle.entries.specs.Walk.{Holds, unread_there, Finds};
 use crate::kinds::{Kind, entry_end, keyword_size, kind_at, referred};
 use classes::Names;
 use cursor::skip_s;
-use error::Answer;
 use markup::has_pe_reference;
 
 // An unread declaration: its first byte, one past its last, and whether a parameter-entity reference came before it between
@@ -21,16 +20,15 @@ pub struct Unread {
 }
 
 // Whether the entry from `first` to `past` is a declaration that goes unread: the instructions and comments between declarations, and
-// the references themselves, never do.
+// the references themselves, never do. (Place, end and kind are what the walk has just found: a struct of them would be built for one call.)
 #[tactic(auto, using(crate::proofs::Walking::telling))]
 fn is_unread(s: &[u8], first: usize, past: usize, kind: Kind, pe_used: bool, names: Names) -> bool
     requires { Holds (kind_of kind) s.now first past }
     ensures { result ≡ unread_there (dialect names) pe_used (kind_of kind) s.now first past }
 {
-    let size = keyword_size(kind);
-    if size == 0 {
+    let Some(size) = keyword_size(kind) else {
         return false;
-    }
+    };
     if pe_used {
         return true;
     }

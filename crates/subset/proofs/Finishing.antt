@@ -15,7 +15,7 @@ use Rattle.spec.specs.Reading.Readers.{ok, Reader, on_ok, nothing}
 use Rattle.spec.specs.Reading.Dtd.{take_decl_body, has_pe_reference, finish_decl}
 use Rattle.cursor.proofs.Reading.{left_of}
 use Rattle.spec.proofs.Inside.Readers.{body_within}
-use Rattle.error.specs.Read.{Said, passed, said, placed, read, Answer, refused}
+use Rattle.error.specs.Read.{passed, said, placed, read, Answer}
 use Rattle.error.specs.declared.Fault.{Fault}
 use Rattle.error.proofs.Laws.{was_ok, was_err}
 

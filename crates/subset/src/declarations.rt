@@ -1,5 +1,6 @@
 // Markup declarations of the internal subset: parse_markup_decl, finish_decl and parse_element_decl of dtd.rs.
-// Text, place and names stay three parameters (classes/src/lib.rt says why).
+// Text, place and names stay three parameters (classes/src/lib.rt says why). And whether a parameter-entity reference came before is a
+// fourth, apart from the names: three in four of the readers below take the names alone.
 ghost use Rattle.std.specs.Prelude.{◌≡◌};
 ghost use Rattle.spec.specs.Reading.Refusals.{too_deep};
 ghost use Rattle.spec.specs.Reading.Dtd.{parse_element_decl, parse_attlist_decl, parse_entity_decl, parse_notation_decl, finish_decl, parse_markup_decl};

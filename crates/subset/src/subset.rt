@@ -11,7 +11,6 @@ use classes::Names;
 use cursor::skip_s;
 use error::{Answer, Refusal};
 use markup::parse_pe_reference;
-use utf8::byte_at;
 
 // [28b] intSubset and the ']' that closes it, from the place after its '['
 #[tactic(auto, using(crate::proofs::Looping::looping))]
@@ -22,24 +21,15 @@ pub fn parse_internal_subset(s: &[u8], at: usize, names: Names) -> Answer
     let mut i = at;
     loop {
         let here = skip_s(s, i);
-        let b = byte_at(s, here);
-        if b == b']' {
-            return Ok(here + 1);
+        match s.get(here) {
+            Some(b']') => return Ok(here + 1),
+            Some(b'%') => {
+                i = parse_pe_reference(s, here, names)?;
+                pe_used = true;
+            }
+            Some(b'<') => i = parse_markup_decl(s, here, pe_used, names)?,
+            Some(_) => return Err(Refusal::Unexpected.at(here)),
+            None => return Err(Refusal::Unterminated.at(here)),
         }
-        if b == b'%' {
-            let j = parse_pe_reference(s, here, names)?;
-            pe_used = true;
-            i = j;
-            continue;
-        }
-        if b == b'<' {
-            let j = parse_markup_decl(s, here, pe_used, names)?;
-            i = j;
-            continue;
-        }
-        if here < s.len() {
-            return Err(Refusal::Unexpected.at(here));
-        }
-        return Err(Refusal::Unterminated.at(here));
     }
 }

@@ -10,8 +10,8 @@ use Rattle.error.specs.Read.{read}
 use Rattle.classes.specs.Classes.{dialect}
 use Rattle.subset.proofs.subset.parse_internal_subset.Given as goal
 
-abbrev pub invariant-loop-names : goal.invariant-loop-names
-invariant-loop-names l = read (items (dialect l.names) l.pe_used) l.s l.i ≡ read (parse_internal_subset (dialect l.names) too_deep) l.s l.at
+abbrev pub invariant-loop-i : goal.invariant-loop-i
+invariant-loop-i l = read (items (dialect l.names) l.pe_used) l.s l.i ≡ read (parse_internal_subset (dialect l.names) too_deep) l.s l.at
 
-abbrev pub decreases-loop-names : goal.decreases-loop-names
-decreases-loop-names l = length l.s - l.i
+abbrev pub decreases-loop-i : goal.decreases-loop-i
+decreases-loop-i l = length l.s - l.i
