@@ -1,6 +1,6 @@
 -- What the calls search. Each law is one way through a call, and its premises are the tests and the calls on that way. Assumes nothing.
 use mathlib.Core.Path.{◌≡◌, refl, sym, ap, ◌∙◌}
-use mathlib.Core.Bool.{Bool, true, false, ◌||◌, not, true≢false}
+use mathlib.Core.Bool.{true, false, ◌||◌, not}
 use mathlib.Core.List.{List}
 use Prim.Native.Nat.{ℕ, zero, suc, ◌+◌, ◌<◌, ◌≤◌}
 use native.Mathlib.Omega.{arith}
@@ -10,7 +10,7 @@ use borrow.Author.Rules.{rules}
 use borrow.Author.Tests.{le-ltb, lt-ltb}
 use lib.Dec.{eqb}
 use Rattle.std.specs.Prelude.{Result, Ok, Err, IsErrAnd}
-use Rattle.std.specs.Result.{is_err, result_from_control_flow}
+use Rattle.std.specs.Result.{result_from_control_flow}
 use Rattle.std.proofs.Common.{Break, Continue}
 use Rattle.std.proofs.lemmas.Result.{err_from_is_err_and}
 use Rattle.spec.specs.Basics.{pick}
@@ -21,8 +21,7 @@ use Rattle.spec.specs.Reading.Gate as G
 use Rattle.spec.specs.Reading.Gate.{Record, Outcome, says_open, says, one_more, answered, unless}
 use Rattle.spec.specs.Reading.Readers.{number_of, nothing}
 use Rattle.spec.specs.Reading.Refusals.{number}
-use Rattle.spec.specs.Reading.Scan as Rule
-use Rattle.spec.specs.Reading.Scan.{Scan, scan}
+use Rattle.spec.specs.Reading.Scan.{scan}
 use Rattle.spec.specs.Reading.Source.{checked}
 use Rattle.spec.specs.Reading.Wellformed.{check_chars}
 use Rattle.spec.proofs.Base.Results.{number_pos}
@@ -34,7 +33,7 @@ use Rattle.scan.specs.Answers.{scan_of}
 use Rattle.gate.specs.declared.record.Gate.{Gate}
 use Rattle.gate.specs.declared.record.Docked.{Docked}
 use Rattle.gate.specs.declared.record.Docked.TheVariants.{Whole, Open}
-use Rattle.gate.specs.Promises.{recorded, replied, numbered, answered_by, Declares, Docks}
+use Rattle.gate.specs.Promises.{recorded, tallied, replied, numbered, answered_by, Declares, Docks}
 
 -- the record after something was read, and after a DOCTYPE was seen
 abbrev begun : Gate → Gate
@@ -60,23 +59,13 @@ answer_is g (suc n) = refl
 
 -- `decl`: k is the record without the count
 module _ (g k h : Gate) (w : List ℕ) (v : Verdict) (e : numbered k (code v) ≡ G.decl (recorded g) w) where
-  declares : recorded h ≡ (answered (recorded k) (code v)).left → Declares g w h (code v)
+  pub declares : recorded h ≡ tallied v (recorded k) → Declares g w h (code v)
   unfolding numbered
-  declares f = record { answer = answer_is (recorded k) (code v) ∙ ap (λ (o : Outcome). o.answer) e; left = f ∙ ap (λ (o : Outcome). o.left) e }
-
-  pub decl_counted : is_err v ≡ true → recorded h ≡ G.count (recorded k) → Declares g w h (code v)
-  decl_counted t f = declares (f ∙ go v t)
+  declares f = record { answer = answer_is (recorded k) (code v) ∙ ap (λ (o : Outcome). o.answer) e; left = f ∙ go v ∙ ap (λ (o : Outcome). o.left) e }
     where
-      go : (v : Verdict) → is_err v ≡ true → G.count (recorded k) ≡ (answered (recorded k) (code v)).left
-      go (Ok u) t = absurd (true≢false (sym t))
-      go (Err x) t = sym (refusal_counts (recorded k) x)
-
-pub decl_kept : (g k : Gate) (w : List ℕ) (v : Verdict) → numbered k (code v) ≡ G.decl (recorded g) w → is_err v ≡ false → Declares g w k (code v)
-decl_kept g k w v e t = declares g k k w v e (go v t)
-  where
-    go : (v : Verdict) → is_err v ≡ false → recorded k ≡ (answered (recorded k) (code v)).left
-    go (Ok u) t = refl
-    go (Err x) t = absurd (true≢false t)
+      go : (v : Verdict) → tallied v (recorded k) ≡ (answered (recorded k) (code v)).left
+      go (Ok u) = refl
+      go (Err x) = sym (refusal_counts (recorded k) x)
 
 -- a check in front of the rest
 stops : (x : Refusal) (g : Record) (rest : Outcome) → answered g (number (reason x)) ≡ unless (number (reason x)) g rest
@@ -164,31 +153,19 @@ module _ (g : Gate) (w : List ℕ) (a : Verdict) (c : code a ≡ checked nothing
 
 -- `doctype`: k is the record without the count
 module _ (g k h : Gate) (phase : ℕ) (w : List ℕ) (r : Result Docked Refusal) (e : answered_by k r ≡ G.doctype appendix_b (recorded g) phase w) where
-  docks : recorded h ≡ (answered_by k r).left → Docks g phase w h r
+  pub docks : recorded h ≡ tallied r (recorded k) → Docks g phase w h r
   unfolding answered_by numbered
-  docks f = record { answer = go r ∙ ap (λ (o : Outcome). o.answer) e; left = f ∙ ap (λ (o : Outcome). o.left) e }
+  docks f = record { answer = go r ∙ ap (λ (o : Outcome). o.answer) e; left = f ∙ kept r ∙ ap (λ (o : Outcome). o.left) e }
     where
       go : (r : Result Docked Refusal) → replied r ≡ (answered_by k r).answer
       go (Ok Whole) = refl
       go (Ok Open) = refl
       go (Err x) = answer_is (recorded k) (number (reason x))
 
-  pub docks_counted : is_err r ≡ true → recorded h ≡ G.count (recorded k) → Docks g phase w h r
-  unfolding answered_by numbered
-  docks_counted t f = docks (f ∙ go r t)
-    where
-      go : (r : Result Docked Refusal) → is_err r ≡ true → G.count (recorded k) ≡ (answered_by k r).left
-      go (Ok d) t = absurd (true≢false (sym t))
-      go (Err x) t = sym (refusal_counts (recorded k) x)
-
-pub docks_kept : (g k : Gate) (phase : ℕ) (w : List ℕ) (r : Result Docked Refusal) → answered_by k r ≡ G.doctype appendix_b (recorded g) phase w → is_err r ≡ false → Docks g phase w k r
-unfolding answered_by numbered
-docks_kept g k phase w r e t = docks g k k phase w r e (go r t)
-  where
-    go : (r : Result Docked Refusal) → is_err r ≡ false → recorded k ≡ (answered_by k r).left
-    go (Ok Whole) t = refl
-    go (Ok Open) t = refl
-    go (Err x) t = absurd (true≢false t)
+      kept : (r : Result Docked Refusal) → tallied r (recorded k) ≡ (answered_by k r).left
+      kept (Ok Whole) = refl
+      kept (Ok Open) = refl
+      kept (Err x) = sym (refusal_counts (recorded k) x)
 
 -- the count, held at its limit
 held : (n : ℕ) → min (n + 1) 65_535 ≡ one_more n
@@ -204,5 +181,3 @@ unfolding recorded
 count_held g k e = rw (e, held g.refused)
 
 pub ruleset reading = (decl_refused, decl_late, decl_first, dock_refused, dock_char, dock_late, dock_open, dock_wrong, dock_whole, count_held, rules)
-
-pub ruleset counting = (decl_counted, decl_kept, docks_counted, docks_kept, rules)

@@ -14,6 +14,11 @@ use Rattle.gate.specs.declared.record.Docked.TheVariants.{Whole, Open}
 unfoldable pub recorded : Gate → Record
 recorded g = record { started = g.started; seen = g.seen; «open» = g.«open»; refused = g.refused }
 
+-- the record after an answer of the code: a refusal is counted
+abbrev pub tallied : {A : Type 0} → Result A Refusal → Record → Record
+tallied (Ok x) g = g
+tallied (Err x) g = G.count g
+
 -- what each reply is in docs/SCOPE.md: "open", or a number of its table
 abbrev pub replied : Result Docked Refusal → Says
 replied (Ok Whole) = says 0

@@ -3,7 +3,7 @@ ghost use Rattle.std.specs.Prelude.{◌≡◌};
 ghost use Rattle.spec.specs.Grammar.AppendixB.{appendix_b};
 ghost use Rattle.spec.specs.Reading.Gate as G;
 ghost use Rattle.error.specs.Read.{code};
-ghost use Rattle.gate.specs.Promises.{recorded, numbered, answered_by, Declares, Docks};
+ghost use Rattle.gate.specs.Promises.{recorded, tallied, numbered, answered_by, Declares, Docks};
 
 use crate::record::{Docked, Gate};
 use chars::chars_admitted;
@@ -25,6 +25,17 @@ impl Gate {
         self.refused = self.refused.saturating_add(1);
     }
 
+    // What a call answers, whatever its answers are: a refusal is counted, and the answer handed on.
+    fn counted<T>(&mut self, answer: Result<T, Refusal>) -> Result<T, Refusal>
+        ensures record { recorded self.new ≡ tallied answer (recorded self.old) }
+        ensures answer { result ≡ answer }
+    {
+        if answer.is_err() {
+            self.count();
+        }
+        answer
+    }
+
     // The XML declaration, but for the count: 1 and 2 come first. One that is not the first thing read is refused unread.
     fn read_decl(&mut self, text: &[u8]) -> Verdict
         ensures { numbered self.new (code result) ≡ G.decl (recorded self.old) text.now }
@@ -43,10 +54,7 @@ impl Gate {
         ensures { Declares self.old text.now self.new (code result) }
     {
         let verdict = self.read_decl(text);
-        if verdict.is_err() {
-            self.count();
-        }
-        verdict
+        self.counted(verdict)
     }
 
     // A DOCTYPE, but for the count: 1 and 2 come first; then the characters, the order and the scan. A subset that has opened and not closed
@@ -75,9 +83,6 @@ impl Gate {
         ensures { Docks self.old phase text.now self.new result }
     {
         let answer = self.read_doctype(phase, text);
-        if answer.is_err() {
-            self.count();
-        }
-        answer
+        self.counted(answer)
     }
 }
