@@ -3,16 +3,9 @@ use crate::console::{Failure, Output};
 use crate::files::{HELD, Source};
 use crate::options::Manner;
 use crate::report::{Document, NotRead, Report};
+use crate::status::Status;
 use crate::verdict::judge;
 use std::alloc::AllocError;
-
-// The exit status: all files accepted, one refused, or one that could not be read (also wrong usage). The highest counts.
-#[derive(Clone, Copy, PartialEq, Eq, PartialOrd, Ord)]
-pub enum Status {
-    Good,
-    Refused,
-    Failed,
-}
 
 // What the check of each file uses. Its buffers are made once, and not for each file.
 #[derive(Drop)]

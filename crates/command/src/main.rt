@@ -10,19 +10,19 @@ mod links;
 mod options;
 mod report;
 mod show;
+mod status;
 mod usage;
 mod verdict;
 mod words;
 
-use checker::{Checker, Status};
+use checker::Checker;
 use console::{OUTPUT, PROGRAM};
 use options::{Options, Request};
-use std::io;
-use std::io::Print;
-use std::process::ExitCode;
+use status::Status;
+use std::io::{Print, Result};
 
 // Does what the arguments ask for, or fails where there is no memory for the arguments and the buffers.
-fn run(rt: &HostRuntime) -> io::Result<Status> {
+fn run(rt: &HostRuntime) -> Result<Status> {
     let options = Options::read(rt)?;
     match options.request() {
         Ok(Request::Print(text)) => Ok(print(rt, text)),
@@ -47,7 +47,7 @@ fn print(rt: &HostRuntime, text: &str) -> Status {
     }
 }
 
-fn main(rt: HostRuntime) -> ExitCode {
+fn main(rt: HostRuntime) {
     let status = match run(&rt) {
         Ok(status) => status,
         Err(error) => {
@@ -55,5 +55,5 @@ fn main(rt: HostRuntime) -> ExitCode {
             Status::Failed
         }
     };
-    ExitCode::from(status as u8)
+    status.tell();
 }
