@@ -11,7 +11,7 @@ mod text;
 mod vector;
 
 use std::io;
-use std::io::{BufRead, BufReader};
+use std::io::{BufRead, BufReader, ErrorKind};
 use tally::Tally;
 
 fn main(rt: HostRuntime) -> io::Result<()> {
@@ -19,7 +19,12 @@ fn main(rt: HostRuntime) -> io::Result<()> {
     let input = BufReader::new(alloc, rt.stdin())?;
     let mut tally = Tally::new();
     for line in input.split(alloc, b'\n') {
-        tally.add(&rt, &line?)?;
+        match line {
+            Ok(line) => tally.add(&rt, &line)?,
+            Err(error) if error.kind() == ErrorKind::OutOfMemory => return Err(error),
+            // Nothing comes where a read fails, as at the end of the input.
+            Err(_) => break,
+        }
     }
     println!(rt; "{tally}")
 }

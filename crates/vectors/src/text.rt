@@ -15,6 +15,7 @@ pub fn decode(alloc: Global, column: &[u8]) -> Result<Vec<u8>, Fault> {
     Ok(text)
 }
 
+// Puts a piece behind the text: what its digits say is no text that Display could write.
 fn append(text: &mut Vec<u8>, piece: &[u8]) -> Result<(), Fault> {
     let (digits, count) = match piece.iter().position(|byte| *byte == b'*') {
         Some(star) => (&piece[..star], number(&piece[star + 1..])),
