@@ -11,7 +11,8 @@ use crate::rules::{Rule, admitted, walk};
 use error::{Answer, Refusal, Verdict};
 use search::at_keyword;
 
-// Production 2, Char. By `matches!` a walk over legal characters is 6 percent slower.
+// Production 2, Char. By `matches!` a walk over legal characters is slower: in a coding of one byte (crate `encodings`) it takes 2.5 times
+// as long.
 #[tactic(auto, using(crate::proofs::Bytes::bytes))]
 pub fn is_xml_char(c: u32) -> bool
     ensures { result ≡ xml_char c }

@@ -41,7 +41,7 @@ fn past_block(s: &[u8], at: usize, mark: u8) -> usize
 }
 
 // The place after all such blocks from `at` on. (A test of each block that answers yes or no, as in crate `search`, makes texts with many
-// references slower by 5 to 6 percent.)
+// references slower by 5 to 6 percent; and an instance of its trait `Blocks` is longer than this loop.)
 pub fn skip_blocks(s: &[u8], at: usize, mark: u8) -> usize
     ensures { Skipped (special mark) s.now at result }
 {

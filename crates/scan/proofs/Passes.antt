@@ -23,7 +23,7 @@ use Rattle.spec.proofs.Base.Places.{drop_at, drop_end}
 use Rattle.spec.proofs.Base.Tests.{two_signs}
 use Rattle.search.specs.FirstPlace.{first_place}
 use Rattle.search.specs.Places.{found, place_from, either}
-use Rattle.std.specs.Prelude.{Option, Some, None, Result, Ok, Err}
+use Rattle.std.specs.Prelude.{Option, Some, None}
 use Rattle.search.proofs.Finding.{was_nowhere, was_here, here_onward, here_fits}
 use Rattle.search.proofs.Outside.{sign_in, sign_less, sign_hit, outside_one, signs_found}
 use Rattle.search.proofs.Placing.{from_onward, from_nowhere, from_here}

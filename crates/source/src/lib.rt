@@ -21,7 +21,9 @@ pub struct Span {
 // The longest text that is looked at.
 const LIMIT: usize = 1_048_576;
 
-// 1 before 2, and neither where the text may be looked at.
+// 1 before 2, and neither where the text may be looked at. (By admit_at without its place, which was tried, a text of ASCII whose last byte is
+// no UTF-8 is refused 80 times slower, one of two-byte characters 9 times, which misses the bar: no slower than the Rust. The place is looked
+// for by decoding from the text's start.)
 #[tactic(auto, using(crate::proofs::Admitting::admitting))]
 pub fn admit(text: &[u8]) -> Verdict
     ensures { code result ≡ checked nothing text.now }

@@ -23,7 +23,8 @@ fn step_without(word: &[u8], refusal: Refusal, s: &[u8], at: usize) -> Answer
     check_suspect_byte(s, at)
 }
 
-// CharData has no "]]>" (production 14). It is refused where it begins; the Rust sees it where it ends, and gives the same number.
+// The two rules are an instance of the trait each: what they share is step_without. CharData has no "]]>" (production 14). It is refused where
+// it begins; the Rust sees it where it ends, and gives the same number.
 pub struct Text;
 
 impl Rule for Text {
