@@ -6,13 +6,13 @@ use Prim.Native.Nat.{ℕ, suc, ◌+◌}
 use native.Mathlib.Nat.{add-zero}
 use native.Mathlib.Omega.{arith}
 use borrow.Author.Tests.{not-true, not-false}
-use lib.ListN.{length, take, drop, take-append-drop}
+use lib.ListN.{take, drop, take-append-drop}
 use lib.Seq.{drop-drop}
 use Rattle.std.specs.Prelude.{Option, Some, None, Ok, Err}
 use Rattle.spec.specs.Basics.{pick}
 use Rattle.spec.specs.Grammar.Languages.{ascii}
 use Rattle.spec.specs.Reading.Refusals.{Refusal, double_hyphen}
-use Rattle.spec.specs.Reading.Readers.{nothing, starts, choose, word_of, contains, before, refuse_at, up_to}
+use Rattle.spec.specs.Reading.Readers.{nothing, starts, choose, contains, before, refuse_at, up_to}
 use Rattle.spec.specs.Reading.Dtd.{check_comment}
 use Rattle.spec.proofs.Base.Tests.{T→true, no→false}
 use Rattle.spec.proofs.Agreement.Words.{starts_self, starts_split}
@@ -65,10 +65,6 @@ comment_once s at j r b n a d e f =
     let z : j + 3 ≡ at + (m + 3) = omega arith in
     ap passed z ∙ (rw (h, i, none_before (ascii "--") (drop at s)))
 
--- the bytes p stand at a place, as b says, and the code knows how many they are
-pub word_end : (p s : List ℕ) (at l : ℕ) (b : Bool) (n : Refusal) → b ≡ starts p (drop at s) → b ≡ true → l ≡ length p → said (Ok (at + l)) ≡ read (word_of p n) s at
-word_end p s at l b n e f d = rw d (word_yes p s at b e n f)
-
 -- a comment's text: the first "--" in it, as r says
 module _ (t : List ℕ) (at : ℕ) (r : Option ℕ) (a : found r ≡ first_place (ascii "--") t at) where
   pub comment_twice : (j : ℕ) (x : Fault) → r ≡ Some j → said (Err x) ≡ refused double_hyphen j → said (Err x) ≡ read check_comment t at
@@ -80,4 +76,4 @@ module _ (t : List ℕ) (at : ℕ) (r : Option ℕ) (a : found r ≡ first_place
   comment_clean b = rw (was_nowhere (ascii "--") t at r a b, add-zero)
 
 -- what code that reads comments and signs searches
-pub ruleset marks = (comment_once, comment_twice, comment_clean, word_end, word_no, not-true, not-false, places_found, by_words)
+pub ruleset marks = (comment_once, comment_twice, comment_clean, not-true, not-false, places_found, by_words)

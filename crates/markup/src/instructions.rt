@@ -7,10 +7,10 @@ ghost use Rattle.classes.specs.Classes.{dialect};
 ghost use Rattle.markup.specs.Targets.{target_ends};
 
 use classes::Names;
-use cursor::{Reads, is_space, parse_up_to};
+use cursor::{Reads, eat_str, is_space, parse_up_to};
 use error::{Answer, Refusal};
 use names::parse_name;
-use search::{at_keyword, find_byte};
+use search::find_byte;
 
 // The target "xml", in any case.
 fn is_reserved(t: &[u8]) -> bool
@@ -62,12 +62,10 @@ impl Reads for InstructionText {
 }
 
 // parse_pi, [16] PI: from "<?" to the first "?>".
-#[tactic(auto, using(crate::proofs::Hyphens::marks), unfolding(spec::specs::Reading::Dtd::parse_pi))]
+#[tactic(auto, using(cursor::proofs::Reading::reading), unfolding(spec::specs::Reading::Dtd::parse_pi))]
 pub fn parse_pi(s: &[u8], at: usize, names: Names) -> Answer
     ensures { said result ≡ read (parse_pi (dialect names)) s.now at }
 {
-    if !at_keyword(s, at, b"<?") {
-        return Err(Refusal::Unexpected.at(at));
-    }
-    parse_up_to(s, at + 2, b"?>", &InstructionText(names))
+    let from = eat_str(s, at, b"<?", Refusal::Unexpected)?;
+    parse_up_to(s, from, b"?>", &InstructionText(names))
 }
