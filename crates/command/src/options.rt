@@ -71,7 +71,8 @@ impl Options {
             unknown: None,
             ended: false,
         };
-        // No path is longer, and the library fills a buffer that it is lent.
+        // No path is longer. (`args` of the library, which would make the room itself, fails whole where an argument is not UTF-8, and a
+        // file's name may be of any bytes.)
         let mut buffer = [0u8; 4096];
         for number in 1..usize::MAX {
             match rt.arg(number, &mut buffer) {

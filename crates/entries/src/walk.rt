@@ -37,7 +37,8 @@ fn is_unread(s: &[u8], first: usize, past: usize, kind: Kind, pe_used: bool, nam
     has_pe_reference(&s[from..to], names)
 }
 
-// The first declaration from `at` on that goes unread, where `pe_used` says whether a reference came before `at`.
+// The first declaration from `at` on that goes unread, where `pe_used` says whether a reference came before `at`. (By `.ok()?` in place of the
+// `let .. else` the proof did not close.)
 #[tactic(auto, using(crate::proofs::Walking::walking))]
 pub fn next_unread(s: &[u8], at: usize, pe_used: bool, names: Names) -> Option<Unread>
     ensures { Finds (dialect names) s.now pe_used at result }
