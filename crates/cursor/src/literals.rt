@@ -13,7 +13,7 @@ use crate::space::require_s;
 use crate::words::eat_str;
 use chars::walk_char_refs;
 use error::{Answer, Refusal};
-use search::{find_byte, past_run};
+use search::{Class, find_byte, past_run};
 
 // A literal in either quote, [11] SystemLiteral; its text is not looked at. One without its end is refused behind its opening quote.
 #[tactic(auto, using(crate::proofs::Quotes::quotes))]
@@ -33,16 +33,20 @@ pub fn parse_quoted(s: &[u8], at: usize) -> Answer
 }
 
 // Production 13, PubidChar.
-#[tactic(auto, unfolding(spec::specs::Grammar::Literals::pubid_char))]
-fn is_pubid_char(b: u8) -> bool
-    ensures { result ≡ pubid_char b }
-{
-    matches!(
-        b,
-        b' ' | b'\r' | b'\n' | b'a'..=b'z' | b'A'..=b'Z' | b'0'..=b'9'
-            | b'-' | b'\'' | b'(' | b')' | b'+' | b',' | b'.' | b'/' | b':' | b'=' | b'?'
-            | b';' | b'!' | b'*' | b'#' | b'@' | b'$' | b'_' | b'%'
-    )
+struct PubidChar;
+
+impl Class for PubidChar {
+    ghost class = { λ _. pubid_char };
+
+    #[tactic(auto, unfolding(spec::specs::Grammar::Literals::pubid_char))]
+    fn has(&self, b: u8) -> bool {
+        matches!(
+            b,
+            b' ' | b'\r' | b'\n' | b'a'..=b'z' | b'A'..=b'Z' | b'0'..=b'9'
+                | b'-' | b'\'' | b'(' | b')' | b'+' | b',' | b'.' | b'/' | b':' | b'=' | b'?'
+                | b';' | b'!' | b'*' | b'#' | b'@' | b'$' | b'_' | b'%'
+        )
+    }
 }
 
 // check_pubid: each byte from `at` on is a PubidChar. The text of a literal has no quote mark of its own.
@@ -50,7 +54,7 @@ fn is_pubid_char(b: u8) -> bool
 fn check_pubid(t: &[u8], at: usize) -> Answer
     ensures { said result ≡ read check_pubid t.now at }
 {
-    let i = past_run(t, at, is_pubid_char);
+    let i = past_run(t, at, &PubidChar);
     if i < t.len() {
         return Err(Refusal::BadPubid.at(i));
     }

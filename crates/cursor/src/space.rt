@@ -6,7 +6,7 @@ ghost use Rattle.spec.specs.Reading.Dtd.{require_s};
 ghost use Rattle.error.specs.Read.{said, read};
 
 use error::{Answer, Refusal};
-use search::past_run;
+use search::{Class, past_run};
 
 // One byte of production 3, S. By `matches!` skip_s takes 24 percent more instructions where no white space stands.
 pub fn is_space(b: u8) -> bool
@@ -15,11 +15,22 @@ pub fn is_space(b: u8) -> bool
     (b == 0x20) | (b == 0x9) | (b == 0xD) | (b == 0xA)
 }
 
-// S?: the place after the white space at `at`, or `at` itself.
+// White space.
+struct Space;
+
+impl Class for Space {
+    ghost class = { λ _. space };
+
+    fn has(&self, b: u8) -> bool {
+        is_space(b)
+    }
+}
+
+// S?: the place after the white space at `at`, or `at` itself. (As parse_notation_id of decls it is one call with an instance of its own.)
 pub fn skip_s(s: &[u8], at: usize) -> usize
     ensures { result ≡ at + run space (drop at s.now) }
 {
-    past_run(s, at, is_space)
+    past_run(s, at, &Space)
 }
 
 // S, at least one byte of it.

@@ -10,7 +10,7 @@ ghost use Rattle.encodings.specs.Codings.{of};
 
 use crate::codings::Coding;
 use chars::{chars_end, is_xml_char};
-use search::past_run;
+use search::{Class, past_run};
 use utf8::{is_valid, text_end};
 
 // In UTF-8. Two quick passes over the whole, where it is UTF-8; only where it is not, it is decoded up to there.
@@ -26,18 +26,22 @@ fn utf8_end(text: &[u8]) -> usize
 }
 
 // A Char of ASCII.
-#[tactic(auto, using(crate::proofs::Reached::legal))]
-fn is_ascii_char(b: u8) -> bool
-    ensures { result ≡ class_of in_bytes b }
-{
-    b < 0x80 && is_xml_char(u32::from(b))
+struct AsciiChar;
+
+impl Class for AsciiChar {
+    ghost class = { λ _. class_of in_bytes };
+
+    #[tactic(auto, using(crate::proofs::Reached::legal))]
+    fn has(&self, b: u8) -> bool {
+        b < 0x80 && is_xml_char(u32::from(b))
+    }
 }
 
 // In a coding that has only ASCII in common with UTF-8. (As ascii_len of names it is one call with a class of its own.)
 fn ascii_end(text: &[u8]) -> usize
     ensures { result ≡ run (class_of in_bytes) text.now }
 {
-    past_run(text, 0, is_ascii_char)
+    past_run(text, 0, &AsciiChar)
 }
 
 // In any coding. Of a foreign one nothing is read. (The coding is a value that the text tells, so this is a match and no type parameter.)

@@ -3,20 +3,31 @@
 ghost use Rattle.std.specs.Prelude.{◌≡◌, ◌+◌, drop};
 ghost use Rattle.spec.specs.Reading.Readers.{taken};
 ghost use Rattle.spec.specs.Reading.Wellformed.{parts, name_length};
-ghost use Rattle.classes.specs.Classes.{dialect};
+ghost use Rattle.classes.specs.Classes.{ascii_part, dialect};
 ghost use Rattle.names.specs.Names.{AsciiRun};
 ghost use Rattle.names.specs.NamePart.{NamePart};
 
 use classes::{Names, ascii_name_char, ascii_name_start, is_name_char, is_name_start_char};
-use search::past_run;
+use search::{Class, past_run};
 use utf8::code_point;
+
+// NameChar below 128.
+struct AsciiNameChar;
+
+impl Class for AsciiNameChar {
+    ghost class = { λ _. ascii_part };
+
+    fn has(&self, b: u8) -> bool {
+        ascii_name_char(b)
+    }
+}
 
 // The name characters below 128: up to their end, or up to a byte that wants decoding. Most names are ASCII, and this decodes nothing.
 // (As ascii_end of encodings it is one call with a class of its own.)
 fn ascii_len(s: &[u8]) -> usize
     ensures { AsciiRun s.now result }
 {
-    past_run(s, 0, ascii_name_char)
+    past_run(s, 0, &AsciiNameChar)
 }
 
 // All name characters, decoded where a byte is 128 or more. The place moves by each character's width, which no iterator over bytes does.

@@ -1,5 +1,5 @@
 -- Runs of bytes outside a class, of which code may pass some at once. Assumes nothing.
-use Rattle.std.specs.Prelude.{◌≡◌, Bool, true, not, List, ℕ, ◌+◌, ◌^◌, ◌<◌, ◌≤◌, drop}
+use Rattle.std.specs.Prelude.{◌≡◌, Bool, true, not, List, ℕ, ◌+◌, ◌≤◌, drop}
 use Rattle.spec.specs.Reading.Readers.{run}
 
 -- how many bytes outside the class stand first
@@ -14,7 +14,3 @@ pub record Skipped (q : ℕ → Bool) (s : List ℕ) (at r : ℕ) : Type 0 where
 -- where t is true, n bytes outside the class stand at a place; where it is false, nothing is said
 pub record Block (q : ℕ → Bool) (s : List ℕ) (at n : ℕ) (t : Bool) : Type 0 where
   pub lies : t ≡ true → n ≤ away q (drop at s)
-
--- what a call of a test can answer of a byte is whether it is of the class
-abbrev pub Tests : (ℕ → Bool → Type 0) → (ℕ → Bool) → Type 0
-Tests post p = (b : ℕ) (t : Bool) → b < 2 ^ 8 → post b t → t ≡ p b

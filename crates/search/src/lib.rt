@@ -13,4 +13,4 @@ pub use bytes::find_byte;
 pub use keywords::at_keyword;
 pub use places::{find, has_byte};
 pub use quotes::outside_quotes;
-pub use spans::past_run;
+pub use spans::{Class, past_run};

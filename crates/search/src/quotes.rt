@@ -1,12 +1,12 @@
 // The first of two signs outside quotes: what dtd.rs's take_decl_body and checks.rs's quick scan look for.
-ghost use Rattle.std.specs.Prelude.{◌≡◌, ◌+◌, drop};
+ghost use Rattle.std.specs.Prelude.{◌≡◌, not, ◌+◌, drop};
 ghost use Rattle.spec.specs.Reading.Places.{outside};
 ghost use Rattle.search.specs.Runs.{away};
 ghost use Rattle.search.specs.Places.{found, place_from, either, stop};
 
 use crate::blocks::{Blocks, past_blocks};
 use crate::bytes::{block_lacks, find_in_rest};
-use crate::spans::past_run;
+use crate::spans::{Class, past_run};
 
 // A quote mark, or one of two signs.
 #[derive(Clone, Copy)]
@@ -27,7 +27,7 @@ impl Marks {
     fn first(self, s: &[u8], at: usize) -> usize
         ensures { result ≡ at + away (stop self.sign self.other) (drop at s.now) }
     {
-        past_run(s, past_blocks(s, at, &self), |b: u8| !self.has(b))
+        past_run(s, past_blocks(s, at, &self), &Unmarked(self))
     }
 }
 
@@ -41,6 +41,18 @@ impl Blocks for Marks {
             & block_lacks(s, at, b'\'')
             & block_lacks(s, at, self.sign)
             & block_lacks(s, at, self.other)
+    }
+}
+
+// What is no mark.
+#[derive(Clone, Copy)]
+struct Unmarked(Marks);
+
+impl Class for Unmarked {
+    ghost class = { λ u b. not (stop u.0.sign u.0.other b) };
+
+    fn has(&self, b: u8) -> bool {
+        !self.0.has(b)
     }
 }
 

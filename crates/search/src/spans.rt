@@ -1,16 +1,24 @@
 // The end of a run of bytes of one class.
 ghost use Rattle.std.specs.Prelude.{◌≡◌, Bool, ℕ, ◌+◌, drop};
 ghost use Rattle.spec.specs.Reading.Readers.{run};
-ghost use Rattle.search.specs.Runs.{Tests};
 
-// The place after the bytes at `at` that pass the test, byte by byte: such runs are short. By `position` over the rest of the text a
+// A class of bytes, by a test of one. A trait and no closure, so that nothing need be asked of who passes over a run of it.
+pub trait Class {
+    // The bytes that are of it: what a promise about a run of them names.
+    ghost class: { Self → ℕ → Bool };
+
+    // Whether b is one of them.
+    fn has(&self, b: u8) -> bool
+        ensures { result ≡ class self.now b };
+}
+
+// The place after the bytes of the class at `at`, byte by byte: such runs are short. By `position` over the rest of the text a
 // reader of white space takes up to a quarter more instructions.
-pub fn past_run<F: Fn(u8) -> bool>(s: &[u8], at: usize, is: F) -> usize
-    requires { F.IsAlwaysCallable is }
-    ensures { (p : ℕ → Bool) → Tests (F.post is) p → result ≡ at + run p (drop at s.now) }
+pub fn past_run<C: Class>(s: &[u8], at: usize, of: &C) -> usize
+    ensures { result ≡ at + run (C.class of.now) (drop at s.now) }
 {
     for i in at..s.len() {
-        if !is(s[i]) {
+        if !of.has(s[i]) {
             return i;
         }
     }
