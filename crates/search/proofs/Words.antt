@@ -1,5 +1,6 @@
 -- Fixed words: at_keyword's loop, and readers that go by a word. Assumes nothing.
-use mathlib.Core.Path.{◌≡◌, refl, sym, ◌∙◌}
+use mathlib.Core.Path.{◌≡◌, refl, sym, ap, ◌∙◌}
+use mathlib.Core.Logic.{◌⊎◌, inl, inr}
 use mathlib.Core.Bool.{Bool, true, false}
 use mathlib.Core.List.{List, [], ◌∷◌}
 use Prim.Native.Nat.{ℕ, suc, ◌+◌, ◌-◌, ◌^◌, ◌<◌, ◌≤◌}
@@ -18,33 +19,47 @@ use Rattle.spec.specs.Reading.Refusals.{Refusal}
 use Rattle.spec.specs.Reading.Readers.{Reader, ◌>>◌, starts, on, word_of}
 use Rattle.spec.proofs.Agreement.Words.{starts_split}
 use Rattle.spec.proofs.Base.Places.{drop_at, drop_end, take_rest}
-use Rattle.spec.proofs.Base.Tests.{eqb_no}
+use Rattle.spec.proofs.Base.Tests.{decide, eqb_no}
 use Rattle.error.specs.Read.{Said, refused, said, read}
 use Rattle.error.specs.declared.Fault.{Fault}
 use Rattle.error.proofs.Laws.{seq_no, seq_at, choose_yes, choose_no, chain}
 
--- a word from its place j on, at i
-module _ (kw s : List ℕ) (i j : ℕ) (B : Bool) (inv : starts (drop j kw) (drop i s) ≡ B) where
-  pub starts_past : j < length kw → length s ≤ i → false ≡ B
-  unfolding starts
-  starts_past h k = rw (drop_at kw j h, drop_end s i k) at inv
+-- a word lies within the text
+starts_fit : (kw w : List ℕ) → starts kw w ≡ true → length kw ≤ length w
+starts_fit kw w e = let (v, f) = starts_split kw w e in rw (f, length-append) (omega arith)
 
-  pub starts_other : j < length kw → i < length s → (get_or s i 0 ≡ get_or kw j 0 → ⊥) → false ≡ B
-  unfolding starts
-  starts_other h k n = rw (drop_at kw j h, drop_at s i k, ne_eqb _ _ n) at inv
-
-  pub starts_more : j < length kw → i < length s → get_or s i 0 ≡ get_or kw j 0 → starts (drop (j + 1) kw) (drop (i + 1) s) ≡ B
-  unfolding starts
-  starts_more h k e = rw (drop_at kw j h, drop_at s i k, eq-eqb _ _ e) at inv
-
+-- a word from its place j on, in a text that is long enough
+module _ (kw s : List ℕ) (j : ℕ) (B : Bool) (inv : starts (drop j kw) (drop j s) ≡ B) where
   pub starts_whole : length kw ≤ j → true ≡ B
   unfolding starts
   starts_whole h = rw (drop_end kw j h) at inv
+
+  module _ (h : j < length kw) (k : length kw ≤ length s) where
+    here : j < length s
+    here = omega arith
+
+    pub starts_other : (get_or s j 0 ≡ get_or kw j 0 → ⊥) → false ≡ B
+    unfolding starts
+    starts_other n = rw (drop_at kw j h, drop_at s j here, ne_eqb _ _ n) at inv
+
+    pub starts_more : get_or s j 0 ≡ get_or kw j 0 → starts (drop (j + 1) kw) (drop (j + 1) s) ≡ B
+    unfolding starts
+    starts_more e = rw (drop_at kw j h, drop_at s j here, eq-eqb _ _ e) at inv
 
 -- the rest of the text at a place
 module _ (kw s w : List ℕ) (at : ℕ) (e : w ≡ take (length s - at) (drop at s)) where
   pub starts_from : starts (drop 0 kw) (drop 0 w) ≡ starts kw (drop at s)
   starts_from = rw (e, take_rest s at)
+
+  pub starts_short : length w < length kw → false ≡ starts kw (drop at s)
+  starts_short h = go (decide (starts kw (drop at s)))
+    where
+      go : (starts kw (drop at s) ≡ true) ⊎ (starts kw (drop at s) ≡ false) → false ≡ starts kw (drop at s)
+      go (inl t) =
+          let f = starts_fit kw (drop at s) t in
+          let g : length w ≡ length (drop at s) = ap length (e ∙ take_rest s at) in
+          absurd (omega arith)
+      go (inr f) = sym f
 
 pub starts_beyond : (kw s : List ℕ) (at : ℕ) (b : Bool) → length s < at → b ≡ eqb (length kw) 0 → b ≡ starts kw (drop at s)
 unfolding starts
@@ -53,10 +68,6 @@ starts_beyond kw s at b h e = let k : length s ≤ at = omega arith in rw (drop_
     go : (k : List ℕ) → b ≡ eqb (length k) 0 → b ≡ starts k []
     go [] f = f
     go (x ∷ k) f = f ∙ eqb_no (suc (length k)) 0 (λ (z : suc (length k) ≡ 0). omega arith)
-
--- a word lies within the text
-starts_fit : (kw w : List ℕ) → starts kw w ≡ true → length kw ≤ length w
-starts_fit kw w e = let (v, f) = starts_split kw w e in rw (f, length-append) (omega arith)
 
 pub word_fits : (kw s : List ℕ) (at n : ℕ) (b : Bool) → b ≡ starts kw (drop at s) → b ≡ true → n ≡ length kw → 0 < n → length s < 2 ^ 64 → Fits w64 (at + n)
 word_fits kw s at n b e f l h g = let v = simp length-drop at (starts_fit kw (drop at s) (sym e ∙ f)) in omega arith
@@ -88,6 +99,6 @@ module _ (p s : List ℕ) (at : ℕ) (b : Bool) (e : b ≡ starts p (drop at s))
   word_not x B f g = seq_no (word_of p n) B s at x (Err x) (word_no x f g) refl
 
 -- what at_keyword searches, and what code that goes by words searches
-pub ruleset matching = (starts_from, starts_beyond, starts_past, starts_other, starts_more, starts_whole, rules)
+pub ruleset matching = (starts_from, starts_beyond, starts_short, starts_other, starts_more, starts_whole, rules)
 
 pub ruleset by_words = (on_yes, on_no, word_then, word_not, word_fits, chain)

