@@ -1,6 +1,6 @@
 -- Bytes that are looked at, and characters. Assumes nothing.
 use mathlib.Core.Path.{◌≡◌, ◌∙◌}
-use mathlib.Core.Bool.{Bool, false, ◌&&◌, ◌||◌, not, or-false, or_assoc}
+use mathlib.Core.Bool.{Bool, true, false, ◌&&◌, ◌||◌, not, or-false, or-true, or_assoc}
 use mathlib.Core.List.{List, [], ◌∷◌}
 use Prim.Native.Nat.{ℕ, ◌+◌, ◌<◌, ◌≤◌}
 use native.Mathlib.Nat.{add-zero}
@@ -16,10 +16,14 @@ use Rattle.error.specs.Read.{said, read}
 use Rattle.error.proofs.Laws.{chain}
 use Rattle.chars.specs.Bytes.{suspect, special}
 
--- `among` ends with a test that always fails
-pub char_is : (c : ℕ) → eqb c 0x9 || eqb c 0xA || eqb c 0xD || leb 0x20 c && leb c 0xD7FF || leb 0xE000 c && leb c 0xFFFD || leb 0x10000 c && leb c 0x10FFFF ≡ xml_char c
+-- a Char of the widest range, and any other; `among` ends with a test that always fails
+pub char_wide : (c : ℕ) → (leb 0x20 c && leb c 0xD7FF) ≡ true → true ≡ xml_char c
 unfolding xml_char
-char_is c = simp (or-false, or_assoc)
+char_wide c e = rw e (simp or-true)
+
+pub char_is : (c : ℕ) → (leb 0x20 c && leb c 0xD7FF) ≡ false → eqb c 0x9 || eqb c 0xA || eqb c 0xD || leb 0xE000 c && leb c 0xFFFD || leb 0x10000 c && leb c 0x10FFFF ≡ xml_char c
+unfolding xml_char
+char_is c e = rw e (simp (or-false, or_assoc))
 
 pub suspect_is : (b : ℕ) → ltb b 0x20 && not (eqb b 0x9 || eqb b 0xA || eqb b 0xD) || eqb b 0xEF ≡ suspect b
 unfolding suspect
@@ -53,4 +57,4 @@ unfolding illegal_here
 illegal_three s i t u h e a b = rw (a, b, drop_at s i h, e)
 
 -- what code over single bytes searches
-pub ruleset bytes = (char_is, suspect_is, special_is, byte_here, byte_none, illegal_none, illegal_control, illegal_three, chain)
+pub ruleset bytes = (char_wide, char_is, suspect_is, special_is, byte_here, byte_none, illegal_none, illegal_control, illegal_three, chain)

@@ -2,11 +2,13 @@
 use mathlib.Core.Path.{◌≡◌, refl, sym, ap, ◌∙◌}
 use mathlib.Core.Bool.{Bool, true, false, or-true}
 use mathlib.Core.List.{List}
-use Prim.Native.Nat.{ℕ, ◌+◌}
+use Prim.Native.Nat.{ℕ, ◌+◌, ◌^◌, ◌<◌}
 use native.Mathlib.Nat.{add_assoc, add-zero}
 use native.Mathlib.Omega.{arith}
 use borrow.Author.Tests.{not-true, not-false}
-use lib.ListN.{take, drop}
+use mir.Syntax.{w64}
+use mir.Val.{Fits}
+use lib.ListN.{length, take, drop, length-drop}
 use lib.Seq.{drop-drop}
 use Rattle.std.specs.Prelude.{Ok, Err}
 use Rattle.std.specs.Prelude as Prelude
@@ -17,46 +19,50 @@ use Rattle.spec.specs.Reading.Refusals.{bad_reference}
 use Rattle.spec.specs.Reading.Readers.{Result, ok, err, Reader, starts, run, at_front, as_one}
 use Rattle.spec.specs.Reading.Wellformed.{reference, char_ref}
 use Rattle.spec.proofs.Base.Tests.{eqb_yes, eqb_no}
+use Rattle.spec.proofs.Base.Places.{run_within}
+use Rattle.spec.proofs.Wellformed.Digits.{char_stopped}
 use Rattle.error.specs.Read.{said, refused, reason, placed, read}
 use Rattle.error.specs.declared.Fault.{Fault}
 use Rattle.error.specs.declared.refusal.Refusal.{Refusal}
 use Rattle.error.specs.declared.refusal.Refusal.TheVariants.{BadReference, IllegalReference}
 use Rattle.chars.specs.References.{reference_said}
-use Rattle.chars.specs.Digits.{base, digit_of, DigitsRead}
-use Rattle.chars.specs.declared.references.Radix.{Radix}
+use Rattle.chars.specs.Digits.{Counted}
 use Rattle.error.proofs.Laws.{passed≢refused}
 use Rattle.search.proofs.Words.{on_yes, on_no, word_then, word_not, by_words}
-use Rattle.chars.proofs.Digits.{char_stopped}
 
 abbrev Ref : Type 0
 Ref = Prelude.Result ℕ Refusal
 
--- what follows "&#" or "&#x": digits to e, of the value v
-module _ (radix : Radix) (s : List ℕ) (at e v : ℕ) (d : DigitsRead radix s at e v) where
-  pub ref_empty : e ≡ at → reference_said (Err BadReference) at ≡ read (reference (base radix) (digit_of radix)) s at
+-- what follows "&#" or "&#x": n digits of the value v
+module _ (base : ℕ) (p : ℕ → Bool) (s : List ℕ) (at n v : ℕ) (d : Counted base p (drop at s) n v) where
+  pub ref_empty : n ≡ 0 → reference_said (Err BadReference) at ≡ read (reference base p) s at
   unfolding read reference reference_said
-  ref_empty z = let n : run (digit_of radix) (drop at s) ≡ 0 = omega (arith, d.ends) in rw (eqb_yes (run (digit_of radix) (drop at s)) 0 n, add-zero)
+  ref_empty z = rw (eqb_yes (run p (drop at s)) 0 (sym d.count_is ∙ z), add-zero)
 
-  module _ (t : Bool) (f : t ≡ starts (ascii ";") (drop e s)) where
-    ends_here : t ≡ starts (ascii ";") (drop (run (digit_of radix) (drop at s)) (drop at s))
-    ends_here = f ∙ (rw (d.ends, drop-drop))
+  -- a digit stands within the text
+  pub ref_fits : length s < 2 ^ 64 → (n ≡ 0 → ⊥) → Fits w64 (at + n)
+  ref_fits l z = omega (arith, d.count_is, run_within p (drop at s), length-drop at s)
 
-    pub ref_open : t ≡ false → reference_said (Err BadReference) at ≡ read (reference (base radix) (digit_of radix)) s at
+  module _ (t : Bool) (f : t ≡ starts (ascii ";") (drop (at + n) s)) where
+    ends_here : t ≡ starts (ascii ";") (drop (run p (drop at s)) (drop at s))
+    ends_here = f ∙ (rw (d.count_is, drop-drop))
+
+    pub ref_open : t ≡ false → reference_said (Err BadReference) at ≡ read (reference base p) s at
     unfolding read reference reference_said
     ref_open g = rw (sym ends_here ∙ g, or-true, add-zero)
 
-    module _ (g : t ≡ true) (n : e ≡ at → ⊥) (c : Bool) (x : c ≡ xml_char v) where
-      some_digit : run (digit_of radix) (drop at s) ≡ 0 → ⊥
-      some_digit z = n (omega (arith, d.ends))
+    module _ (g : t ≡ true) (z : n ≡ 0 → ⊥) (c : Bool) (x : c ≡ xml_char v) where
+      some_digit : run p (drop at s) ≡ 0 → ⊥
+      some_digit e = z (d.count_is ∙ e)
 
-      is_char : c ≡ xml_char (value_on (base radix) 0 (take (run (digit_of radix) (drop at s)) (drop at s)))
-      is_char = x ∙ ap xml_char d.value ∙ char_stopped _
+      is_char : c ≡ xml_char (value_on base 0 (take (run p (drop at s)) (drop at s)))
+      is_char = x ∙ ap xml_char d.value_is ∙ char_stopped _
 
-      pub ref_legal : c ≡ true → reference_said (Ok (e + 1)) at ≡ read (reference (base radix) (digit_of radix)) s at
+      pub ref_legal : c ≡ true → reference_said (Ok (at + n + 1)) at ≡ read (reference base p) s at
       unfolding read reference reference_said
-      ref_legal y = rw (eqb_no _ _ some_digit, sym ends_here ∙ g, sym is_char ∙ y, d.ends, add_assoc)
+      ref_legal y = rw (eqb_no _ _ some_digit, sym ends_here ∙ g, sym is_char ∙ y, d.count_is, add_assoc)
 
-      pub ref_illegal : c ≡ false → reference_said (Err IllegalReference) at ≡ read (reference (base radix) (digit_of radix)) s at
+      pub ref_illegal : c ≡ false → reference_said (Err IllegalReference) at ≡ read (reference base p) s at
       unfolding read reference reference_said
       ref_illegal y = rw (eqb_no _ _ some_digit, sym ends_here ∙ g, sym is_char ∙ y, add-zero)
 
@@ -102,4 +108,4 @@ unfolding reference_said
 told_bad s at n x r a f e = e ∙ (rw f at a)
 
 -- what code that reads a reference searches
-pub ruleset char_refs = (ref_empty, ref_open, ref_legal, ref_illegal, ref_hex, ref_decimal, ref_none, told_end, told_bad, not-true, not-false, by_words)
+pub ruleset char_refs = (ref_empty, ref_fits, ref_open, ref_legal, ref_illegal, ref_hex, ref_decimal, ref_none, told_end, told_bad, not-true, not-false, by_words)

@@ -1,24 +1,23 @@
--- The digits of a character reference, as they are read in one pass: how far they go, and their value as far as it matters. Assumes nothing.
-use Rattle.std.specs.Prelude.{◌≡◌, Bool, List, ℕ, ◌+◌, min, take, drop}
+-- The digits of a character reference, as one pass over them gives them: how many there are, and their value as far as it matters. The proofs
+-- call no tactic. Assumes nothing.
+use Rattle.std.specs.Prelude.{◌≡◌, Bool, true, List, ℕ, leb, min, take, refl}
 use Rattle.spec.specs.Grammar.References.{digit, hex_digit, value_on}
 use Rattle.spec.specs.Reading.Readers.{run}
-use Rattle.chars.specs.declared.references.Radix.{Radix}
-use Rattle.chars.specs.declared.references.Radix.TheVariants.{Decimal, Hex}
+use Rattle.spec.specs.Reading.Wellformed.{past_points}
 
--- decimal or hexadecimal
-abbrev pub base : Radix → ℕ
-base Decimal = 10
-base Hex = 16
+-- n is how many digits stand first in w, and v the lesser of the number that they stand for and past_points
+pub record Counted (base : ℕ) (d : ℕ → Bool) (w : List ℕ) (n v : ℕ) : Type 0 where
+  pub count_is : n ≡ run d w
+  pub value_is : v ≡ min (value_on base 0 (take (run d w) w)) past_points
 
-abbrev pub digit_of : Radix → ℕ → Bool
-digit_of Decimal = digit
-digit_of Hex = hex_digit
+-- d are digits of a base: it is one of 1 to 16, and 0 is among them
+pub record IsBase (base : ℕ) (d : ℕ → Bool) : Type 0 where
+  pub least : leb 1 base ≡ true
+  pub most : leb base 16 ≡ true
+  pub zero : d 0x30 ≡ true
 
--- the first number past all code points: no Char is here or further on, so a value need not be held beyond it
-abbrev pub past_points : ℕ
-past_points = 0x110000
+pub decimal_is : IsBase 10 digit
+decimal_is = record { least = refl; most = refl; zero = refl }
 
--- e is where the digits from `at` on end, and v is their value, or past_points if that is less
-pub record DigitsRead (radix : Radix) (s : List ℕ) (at e v : ℕ) : Type 0 where
-  pub ends : e ≡ at + run (digit_of radix) (drop at s)
-  pub value : v ≡ min (value_on (base radix) 0 (take (run (digit_of radix) (drop at s)) (drop at s))) past_points
+pub hex_is : IsBase 16 hex_digit
+hex_is = record { least = refl; most = refl; zero = refl }

@@ -11,16 +11,18 @@ use crate::rules::{Rule, admitted, walk};
 use error::{Answer, Refusal, Verdict};
 use search::at_keyword;
 
-// Production 2, Char. By `matches!` a walk over legal characters is slower: in a coding of one byte (crate `encodings`) it takes 2.5 times
-// as long.
+// Production 2, Char: the wide range of most characters, and of most references, first. By `matches!` a walk over legal characters is slower:
+// in a coding of one byte (crate `encodings`) it takes 2.5 times as long.
 #[tactic(auto, using(crate::proofs::Bytes::bytes))]
 pub fn is_xml_char(c: u32) -> bool
     ensures { result ≡ xml_char c }
 {
+    if (0x20 <= c) & (c <= 0xD7FF) {
+        return true;
+    }
     (c == 0x9)
         | (c == 0xA)
         | (c == 0xD)
-        | (0x20 <= c) & (c <= 0xD7FF)
         | (0xE000 <= c) & (c <= 0xFFFD)
         | (0x10000 <= c) & (c <= 0x10FFFF)
 }

@@ -3,6 +3,7 @@
 
 mod calls;
 mod chars;
+mod digits;
 mod references;
 mod rules;
 mod skip;

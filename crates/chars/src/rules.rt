@@ -25,8 +25,7 @@ pub trait Rule {
     ghost steady: { Steady reader (special MARK) };
 }
 
-// A rule from `at` on, to the text's end. Its step says where it goes on, so this is no `for`. (With the step first, attribute values
-// with many references are slower by a twelfth.)
+// A rule from `at` on, to the text's end. Its step says where it goes on, so this is no `for`.
 pub fn walk<R: Rule>(text: &[u8], at: usize) -> Answer
     ensures { said result ≡ read (throughout R.reader) text.now at }
 {

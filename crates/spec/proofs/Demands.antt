@@ -128,8 +128,8 @@ pub fifth_accepts_document : (whole : Bool) (w : List ℕ) → number_in (check_
 fifth_accepts_document whole w z =
     (document_right fifth_edition fifth_edition_ascii whole w).1 (fifth_documents (unmarked w) ((document_right appendix_b appendix_b_ascii whole w).0 z))
 
--- Request 2, of which the code is not in yet: the value of a run of digits that one pass stops at a number is the lesser of the whole run's value
--- and that number, in any base and at any number of digits; and stopped past all code points it is a Char's exactly where the whole value is.
+-- Request 2: the value of a run of digits that one pass stops at a number is the lesser of the whole run's value and that number, in any base and
+-- at any number of digits; and stopped past all code points it is a Char's exactly where the whole value is.
 pub digits_stopped : (most base : ℕ) → 1 ≤ base → (w : List ℕ) → stopped_on most base 0 w ≡ min (value_on base 0 w) most
 digits_stopped = stopped_run
 

@@ -8,7 +8,7 @@ use chars::{Rule, check_char_ref_at, check_suspect_byte};
 use error::{Answer, Refusal};
 use search::at_keyword;
 
-// Legal characters and references, and the word is refused where it begins. (As a call it makes references slower by a seventh.)
+// Legal characters and references, and the word is refused where it begins. (Put into the loop, as all that reads a reference is.)
 #[inline(always)]
 #[tactic(auto, using(chars::proofs::CharRefs::char_refs))]
 fn step_without(word: &[u8], refusal: Refusal, s: &[u8], at: usize) -> Answer
@@ -36,6 +36,7 @@ impl Rule for Text {
 
     ghost steady = { steady_text };
 
+    #[inline(always)]
     #[tactic(auto, unfolding(spec::specs::Reading::Readers::on, spec::specs::Reading::Wellformed::text_step))]
     fn step(s: &[u8], at: usize) -> Answer {
         step_without(b"]]>", Refusal::SectionEnd, s, at)
@@ -54,6 +55,7 @@ impl Rule for AttrValue {
 
     ghost steady = { steady_attr };
 
+    #[inline(always)]
     #[tactic(auto, unfolding(spec::specs::Reading::Readers::on, spec::specs::Reading::Wellformed::attr_step))]
     fn step(s: &[u8], at: usize) -> Answer {
         step_without(b"<", Refusal::LessThan, s, at)

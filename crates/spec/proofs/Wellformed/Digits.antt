@@ -37,19 +37,6 @@ module _ (most base : ℕ) (h : 1 ≤ base) where
           rw z (omega arith)
       go x ih (inr e) = let k = leb_false most x e in let z : min x most ≡ x = omega arith in rw z (ih x (omega arith))
 
-  -- a digit after a value that has stopped, or might have
-  pub stopped_step : (v d : ℕ) → min (min v most * base + d) most ≡ min (v * base + d) most
-  stopped_step v d = go (decide (leb most v))
-    where
-      go : (leb most v ≡ true) ⊎ (leb most v ≡ false) → min (min v most * base + d) most ≡ min (v * base + d) most
-      go (inl e) =
-          let k = leb_true most v e in
-          let z : min v most ≡ most = omega arith in
-          let a = no_less base most d h in
-          let b = no_less base v d h in
-          rw z (omega arith)
-      go (inr e) = let k = leb_false most v e in let z : min v most ≡ v = omega arith in rw z
-
   -- from the front on
   pub stopped_run : (w : List ℕ) → stopped_on most base 0 w ≡ min (value_on base 0 w) most
   stopped_run w = stopped_is 0 w (omega arith)
