@@ -1,9 +1,9 @@
 -- The tests of the XML declaration's values. Assumes nothing.
 use mathlib.Core.Path.{◌≡◌, refl, sym, ap, ◌∙◌}
-use mathlib.Core.Bool.{Bool, true, false, ◌&&◌, not}
+use mathlib.Core.Bool.{Bool, true, false, ◌&&◌, not, and-true, and_assoc}
 use mathlib.Core.List.{List, [], ◌∷◌}
 use Prim.Native.Nat.compare
-use Prim.Native.Nat.{ℕ, suc, ◌-◌, ◌<◌, ◌≤◌}
+use Prim.Native.Nat.{ℕ, suc, ◌+◌, ◌-◌, ◌<◌, ◌≤◌}
 use native.Mathlib.Omega.{arith}
 use borrow.Author.Rules.{rules}
 use borrow.Author.Tests.{eqb-true, eqb-false}
@@ -18,7 +18,7 @@ use Rattle.spec.specs.Grammar.XmlDecl.{enc_char}
 use Rattle.spec.specs.Grammar.Characters.{latin_letter}
 use Rattle.spec.specs.Reading.Checks.{all_of, is_version_num, is_enc_name, is_yes_or_no}
 use Rattle.spec.specs.Reading.Readers.{starts, run}
-use Rattle.spec.proofs.Base.Places.{take_rest}
+use Rattle.spec.proofs.Base.Places.{drop_at, drop_end, take_rest}
 use Rattle.spec.proofs.Base.Tests.{leb_yes, leb_no, eqb_no}
 
 -- what `all` says of a class is that the text is of it
@@ -30,6 +30,14 @@ all_is p (b ∷ w) = go (p b) (all_is p w)
     go : (t : Bool) → list_all p w ≡ eqb (run p w) (length w) → (t && list_all p w) ≡ eqb (pick t (suc (run p w)) 0) (suc (length w))
     go true e = e ∙ (rw compare.suc-suc)
     go false e = sym (eqb_no 0 (suc (length w)) (λ (z : 0 ≡ suc (length w)). omega arith))
+
+-- a pass over it: a whether all before i are of the class
+module _ (p : ℕ → Bool) (v : List ℕ) (i : ℕ) (a : Bool) (inv : (a && list_all p (drop i v)) ≡ list_all p v) where
+  pub pass_more : (t : Bool) → i < length v → t ≡ p (get_or v i 0) → ((a && t) && list_all p (drop (i + 1) v)) ≡ list_all p v
+  pass_more t h e = and_assoc a t (list_all p (drop (i + 1) v)) ∙ (rw (drop_at v i h, sym e) at inv)
+
+  pub pass_all : length v ≤ i → a ≡ all_of p v
+  pass_all h = sym (and-true a) ∙ (rw (drop_end v i h) at inv) ∙ all_is p v
 
 -- what strip_prefix tests, and what `==` does
 front_is : (p w : List ℕ) → pointwise eqb (take (length p) w) p ≡ starts p w
@@ -65,11 +73,11 @@ module _ (v : List ℕ) (t : Bool) (a : pointwise eqb (take 2 v) (ascii "1.") �
         let z : length d ≡ 0 = eqb-true (length d) 0 (sym f ∙ g) in
         rw (begins ∙ y, ← e, leb_no 1 (length d) (omega arith), g)
 
-    pub version_is : (r : Bool) → n ≡ false → r ≡ list_all digit d → r ≡ is_version_num v
+    pub version_is : (r : Bool) → n ≡ false → r ≡ all_of digit d → r ≡ is_version_num v
     unfolding is_version_num
     version_is r g h =
         let z = eqb-false (length d) 0 (sym f ∙ g) in
-        h ∙ all_is digit d ∙ (rw (begins ∙ y, ← e, leb_yes 1 (length d) (omega arith)))
+        h ∙ (rw (begins ∙ y, ← e, leb_yes 1 (length d) (omega arith)))
 
 -- a letter, and what may follow it: a whether a letter stands first
 pub enc_none : (w : List ℕ) → length w < 1 → false ≡ is_enc_name w
@@ -98,4 +106,6 @@ module _ (v : List ℕ) (a : Bool) (e : a ≡ pointwise eqb v (ascii "yes")) whe
   no_is r f g = g ∙ same_is v (ascii "no") ∙ (rw (sym (same_is v (ascii "yes")) ∙ sym e ∙ f))
 
 -- what the tests search
-pub ruleset valuing = (version_none, version_bare, enc_none, enc_not, yes_is, no_is, rules)
+pub ruleset all_of_them = (pass_more, pass_all, rules)
+
+pub ruleset valuing = (version_none, version_bare, version_is, enc_none, enc_not, yes_is, no_is, rules)

@@ -3,7 +3,7 @@ ghost use Rattle.std.specs.Prelude.{◌≡◌, Bool, List, ℕ};
 ghost use Rattle.spec.specs.Grammar.References.{digit};
 ghost use Rattle.spec.specs.Grammar.XmlDecl.{enc_char};
 ghost use Rattle.spec.specs.Grammar.Characters.{latin_letter};
-ghost use Rattle.spec.specs.Reading.Checks.{is_version_num, is_enc_name, is_yes_or_no};
+ghost use Rattle.spec.specs.Reading.Checks.{all_of, is_version_num, is_enc_name, is_yes_or_no};
 
 // The test that a value has to pass.
 pub trait Value {
@@ -32,6 +32,19 @@ fn is_enc_char(b: u8) -> bool
     is_latin_letter(b) || is_digit(b) || matches!(b, b'.' | b'_' | b'-')
 }
 
+// Whether the run of digits goes to the end. No early exit, so that it becomes vector code: of a loop that looks for the end of a run byte by
+// byte the time depends on where it happens to lie (docs/DECISIONS.md).
+#[tactic(auto, using(crate::proofs::Valuing::all_of_them))]
+fn all_digits(v: &[u8]) -> bool
+    ensures { result ≡ all_of digit v.now }
+{
+    let mut all = true;
+    for b in v {
+        all = all & is_digit(*b);
+    }
+    all
+}
+
 // [26] VersionNum. One digit at least follows the dot.
 pub struct VersionNum;
 
@@ -41,7 +54,7 @@ impl Value for VersionNum {
     #[tactic(auto, using(crate::proofs::Valuing::valuing))]
     fn is_value(v: &[u8]) -> bool {
         match v.strip_prefix(b"1.") {
-            Some(digits) => !digits.is_empty() && digits.iter().all(|&b| is_digit(b)),
+            Some(digits) => !digits.is_empty() && all_digits(digits),
             None => false,
         }
     }
