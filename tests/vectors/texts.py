@@ -3,8 +3,8 @@
 
 ORACLE is the unchanged Rust behind a driver that fills the second column (docs/DIFFERENCES.md says which). The texts do not depend on
 it: the ends of every range of production 2 and of Appendix B and their neighbours, each byte sequence that RFC 3629 begins or breaks
-off, references around every limit, each ASCII character in a public identifier, both orders of mixed connectors, and texts, DOCTYPEs, XML
-declarations and the gate's calls put together at random from fixed seeds.
+off, references around every limit, runs of digits of many lengths, each ASCII character in a public identifier, both orders of mixed
+connectors, and texts, DOCTYPEs, XML declarations and the gate's calls put together at random from fixed seeds.
 """
 import random
 import re
@@ -75,6 +75,26 @@ def references():
         for call in CHECKS[1:]:
             line(call, form.encode())
             line(call, ("&#65;" + form + "x").encode())
+
+
+# Runs of digits of many lengths: with zeros in front, with values around the number at which a value stops, and with what is no digit at every
+# place; references one after the other, of which one is bad; versions.
+def runs():
+    for n in list(range(1, 26)) + [63, 64, 65]:
+        for first, values in (("&#", ["0", "9", "65", "1114111", "1114112"]), ("&#x", ["0", "F", "a", "41", "10FFFF", "10ffff", "110000"])):
+            for value in values:
+                line("check_char_refs", f"{first}{value.rjust(n, '0')};".encode())
+        line("check_char_refs", f"&#65{'9' * n};".encode())
+        line("check_char_refs", f"&#x{'f' * n};".encode())
+        for k in range(n) if n < 26 else []:
+            for first, other in (("&#", "a"), ("&#", "/"), ("&#", ":"), ("&#x", "g"), ("&#x", "@"), ("&#x", "`"), ("&#x", "G")):
+                line("check_char_refs", f"{first}{'0' * k}{other}{'0' * (n - k - 1)};".encode())
+            line("check_declaration", f"xml version='1.{'0' * k}a{'9' * (n - k - 1)}'".encode())
+        line("check_declaration", f"xml version='1.{'9' * n}'".encode())
+    for call in CHECKS[1:]:
+        for k in range(6):
+            for bad in ("&#;", "&#1;", "&#x0041", "&", "&#x", "]]>", "<"):
+                line(call, ("&#233;&#x3B1;" * k + bad + "&#65;" * k).encode())
 
 
 PIECES = [b"]", b"]]", b"]]>", b"]>", b">", b"<", b"&", b"#", b";", b"&#", b"&#65;", b"&#x4A;", b"&#0;", b"&#1114112;", b"x", b"41", b"a b", b"\t", b"\x01", b'"', b"'",
@@ -305,6 +325,7 @@ def main():
     byte_sequences()
     name_ends()
     references()
+    runs()
     mixtures(20261115, 700)
     limits()
     doctypes(20261116, 4000)
