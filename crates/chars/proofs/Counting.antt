@@ -1,8 +1,9 @@
 -- A run of digits, one by one, with a value that stops: the laws hold in any base. Assumes nothing.
 use mathlib.Core.Path.{◌≡◌, refl, sym, ap, ◌∙◌}
+use mathlib.Core.Logic.{◌⊎◌, inl, inr}
 use mathlib.Core.Bool.{Bool, true, false}
 use mathlib.Core.List.{List, [], ◌∷◌}
-use Prim.Native.Nat.{ℕ, suc, ◌+◌, ◌-◌, ◌*◌, ◌^◌, ◌<◌, ◌≤◌, min}
+use Prim.Native.Nat.{ℕ, suc, ◌+◌, ◌-◌, ◌*◌, ◌/◌, ◌%◌, ◌<◌, ◌≤◌, min}
 use native.Mathlib.Nat.{mul-le-mul_left}
 use native.Mathlib.Omega.{arith}
 use borrow.Author.Rules.{rules}
@@ -11,15 +12,33 @@ use mir.Val.{Fits}
 use lib.Dec.{eqb}
 use lib.ListN.{length, get_or, take, drop, length-drop}
 use lib.Seq.{drop-drop}
-use Rattle.spec.specs.Basics.{pick}
-use Rattle.spec.specs.Grammar.References.{digit_value, value_on}
+use Rattle.spec.specs.Basics.{pick, within}
+use Rattle.spec.specs.Grammar.References.{digit, hex_digit, digit_value, value_on}
 use Rattle.spec.specs.Reading.Readers.{run}
 use Rattle.spec.specs.Reading.Wellformed.{stopped_on, past_points}
-use Rattle.spec.proofs.Base.Tests.{leb_true, eqb-true}
+use Rattle.spec.proofs.Base.Tests.{decide, leb_true, eqb-true, within_lo, within_hi}
 use Rattle.spec.proofs.Base.Places.{drop_at, drop_end, run_within}
 use Rattle.spec.proofs.Wellformed.Digits.{stopped_run, stopped_stays}
 use Rattle.search.proofs.Runs.{run_end, run_stop, run_go}
 use Rattle.chars.specs.Digits.{Counted, IsBase}
+
+-- what a digit stands for, by its bits: less than 16
+hex_value : (b : ℕ) → hex_digit b ≡ true → (b % 16 + 9 * (b / 64) ≡ digit_value b) × (digit_value b < 16)
+unfolding digit_value
+hex_value b h = by_digit (decide (digit b)) (decide (within 0x41 0x46 b))
+  where
+    by_digit : (digit b ≡ true) ⊎ (digit b ≡ false) → (within 0x41 0x46 b ≡ true) ⊎ (within 0x41 0x46 b ≡ false)
+        → (b % 16 + 9 * (b / 64) ≡ pick (digit b) (b - 0x30) (pick (within 0x41 0x46 b) (b - 0x37) (b - 0x57))) × (pick (digit b) (b - 0x30) (pick (within 0x41 0x46 b) (b - 0x37) (b - 0x57)) < 16)
+    by_digit (inl d) u = let l = within_lo 0x30 0x39 b d in let m = within_hi 0x30 0x39 b d in rw d (omega arith, omega arith)
+    by_digit (inr d) (inl u) = let l = within_lo 0x41 0x46 b u in let m = within_hi 0x41 0x46 b u in rw (d, u) (omega arith, omega arith)
+    by_digit (inr d) (inr u) =
+        let g : within 0x61 0x66 b ≡ true = (rw (d, u) at h) in
+        let l = within_lo 0x61 0x66 b g in
+        let m = within_hi 0x61 0x66 b g in
+        rw (d, u) (omega arith, omega arith)
+
+pub by_bits : (b : ℕ) → hex_digit b ≡ true → b % 16 + 9 * (b / 64) ≡ digit_value b
+by_bits b h = let (e, l) = hex_value b h in e
 
 -- the digits that stand first
 abbrev digits : (ℕ → Bool) → List ℕ → List ℕ
@@ -94,24 +113,28 @@ module _ (base : ℕ) (d : ℕ → Bool) (k : IsBase base d) where
             value_is = whole (drop at s) v (rw (drop_at s i h, sym f ∙ n) at inv.value_is);
           }
 
-      -- one digit more, of the value c
-      module _ (y : t ≡ true) (b : ℕ) (q : b ≡ base) where
-        times : v * b ≤ v * 16
-        times = let z : v * base ≤ v * 16 = mul-le-mul_left v (leb_true base 16 k.most) in rw q z
-
+      -- one digit more: it stands for c
+      module _ (y : t ≡ true) (b c : ℕ) (q : b ≡ base) where
         pub times_fits : Fits w32 (v * b)
-        times_fits = omega (arith, inv.goes_on, times)
+        times_fits = let z : v * base ≤ v * 16 = mul-le-mul_left v (leb_true base 16 k.most) in rw q (omega (arith, inv.goes_on))
 
-        pub more_fits : (c : ℕ) → c < 2 ^ 8 → Fits w32 (v * b + c)
-        more_fits c l = omega (arith, inv.goes_on, times)
+        module _ (e : hex_digit (get_or s i 0) ≡ true → c ≡ digit_value (get_or s i 0)) where
+          is_hex : hex_digit (get_or s i 0) ≡ true
+          is_hex = k.hex (get_or s i 0) (sym f ∙ y)
 
-        module _ (c : ℕ) (e : c ≡ digit_value (get_or s i 0)) where
+          pub more_fits : Fits w32 (v * b + c)
+          more_fits =
+              let z : v * base ≤ v * 16 = mul-le-mul_left v (leb_true base 16 k.most) in
+              let (a, l) = hex_value (get_or s i 0) is_hex in
+              let u : c < 16 = omega (arith, e is_hex) in
+              rw q (omega (arith, inv.goes_on))
+
           abbrev left : List ℕ
           left = digits d (drop (i + 1) s)
 
           more : stopped_on past_points base (min (v * b + c) past_points) left ≡ stopped_on past_points base 0 (digits d (drop at s))
           unfolding run stopped_on
-          more = rw (q, e) (rw (drop_at s i h, sym f ∙ y) at inv.value_is)
+          more = rw (q, e is_hex) (rw (drop_at s i h, sym f ∙ y) at inv.value_is)
 
           pub counted_go : v * b + c < past_points → DigitsLeft base d s at (i + 1) (v * b + c)
           counted_go l =

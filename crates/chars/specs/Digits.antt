@@ -1,6 +1,8 @@
 -- The digits of a character reference, as one pass over them gives them: how many there are, and their value as far as it matters. The proofs
 -- call no tactic. Assumes nothing.
-use Rattle.std.specs.Prelude.{◌≡◌, Bool, true, List, ℕ, leb, min, take, refl}
+use Rattle.std.specs.Prelude.{◌≡◌, Bool, true, ◌||◌, List, ℕ, leb, min, take, refl}
+use Rattle.std.proofs.Common.{ap}
+use Rattle.spec.specs.Basics.{within}
 use Rattle.spec.specs.Grammar.References.{digit, hex_digit, value_on}
 use Rattle.spec.specs.Reading.Readers.{run}
 use Rattle.spec.specs.Reading.Wellformed.{past_points}
@@ -10,14 +12,20 @@ pub record Counted (base : ℕ) (d : ℕ → Bool) (w : List ℕ) (n v : ℕ) : 
   pub count_is : n ≡ run d w
   pub value_is : v ≡ min (value_on base 0 (take (run d w) w)) past_points
 
--- d are digits of a base: it is one of 1 to 16, and 0 is among them
+-- d are digits of a base: it is one of 1 to 16, 0 is among them, and each is a digit of the base 16 too
 pub record IsBase (base : ℕ) (d : ℕ → Bool) : Type 0 where
   pub least : leb 1 base ≡ true
   pub most : leb base 16 ≡ true
   pub zero : d 0x30 ≡ true
+  pub hex : (b : ℕ) → d b ≡ true → hex_digit b ≡ true
 
 pub decimal_is : IsBase 10 digit
-decimal_is = record { least = refl; most = refl; zero = refl }
+decimal_is = record {
+  least = refl;
+  most = refl;
+  zero = refl;
+  hex = λ b e. ap (λ (t : Bool). t || within 0x41 0x46 b || within 0x61 0x66 b) e;
+}
 
 pub hex_is : IsBase 16 hex_digit
-hex_is = record { least = refl; most = refl; zero = refl }
+hex_is = record { least = refl; most = refl; zero = refl; hex = λ b e. e }

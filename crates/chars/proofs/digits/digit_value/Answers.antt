@@ -1,0 +1,6 @@
+-- What is left to show of `digit_value`. Assumes nothing.
+use Rattle.chars.proofs.Counting.{by_bits}
+use Rattle.chars.proofs.digits.digit_value.Goals as goal
+
+pub returns : goal.returns
+returns c = λ h. rw c.from-b.ensures (by_bits c.args.b h)
