@@ -1,6 +1,6 @@
 pub mod Steps
 pub mod Bytes
-pub mod Counting
+pub mod DigitRuns
 pub mod CharRefs
 pub mod Checks
 pub mod Agreed

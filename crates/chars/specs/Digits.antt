@@ -12,7 +12,8 @@ pub record Counted (base : ℕ) (d : ℕ → Bool) (w : List ℕ) (n v : ℕ) : 
   pub count_is : n ≡ run d w
   pub value_is : v ≡ min (value_on base 0 (take (run d w) w)) past_points
 
--- d are digits of a base: it is one of 1 to 16, 0 is among them, and each is a digit of the base 16 too
+-- what the pass asks of a base and of a class of bytes: the base is one of 1 to 16, 0 is of the class, and what is of it is a digit of the base 16.
+-- That the two belong together is for whoever picks them: char_ref_end says so in the order of reading's words.
 pub record IsBase (base : ℕ) (d : ℕ → Bool) : Type 0 where
   pub least : leb 1 base ≡ true
   pub most : leb base 16 ≡ true

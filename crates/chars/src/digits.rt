@@ -1,11 +1,12 @@
-// Runs of digits, as character references have them (production 66): one pass gives how many there are and their value, as far as it matters.
+// Runs of digits, as character references have them (production 66).
 ghost use Rattle.std.specs.Prelude.{◌≡◌, ℕ, true, eqb, drop};
 ghost use Rattle.spec.specs.Grammar.References.{digit, hex_digit, digit_value};
 ghost use Rattle.chars.specs.Digits.{Counted, IsBase, decimal_is, hex_is};
 
 use search::{Class, past_run};
 
-// Where a value stops: the first number past all code points. No Char is here or further on, so that any value is as good as this one there.
+// Where a value stops: the first number past all code points. No Char is here or further on, so a value that comes to it need not be known
+// further.
 const PAST_POINTS: u32 = 0x110000;
 
 // What one pass over a run gives: how many digits there are, and the lesser of their value and PAST_POINTS.
@@ -15,8 +16,9 @@ pub struct Digits {
     pub value: u32,
 }
 
-// A base of at most 16, as references are written in two: its digits are a class of bytes.
+// A base of at most 16; references are written in two of them. Its digits are a class of bytes.
 pub trait Base: Class {
+    // Its number.
     ghost BASE: { ℕ };
 
     const BASE: u32;
@@ -76,7 +78,7 @@ impl Class for Zero {
 
 // What a digit of either base stands for: its last four bits, and nine more for a letter. By arithmetic: with tests for the letters of either
 // case, which the processor guesses, a gazetteer takes a sixth more time. (The library's `to_digit` asks once more whether it is a digit:
-// when it was tried, a text of references took 0.81 of the Rust's time where it took 0.49 by tests.)
+// when it was tried in the loop before this one, references took 1.65 times as long.)
 fn digit_value(b: u8) -> u32
     ensures { hex_digit b ≡ true → result ≡ digit_value b }
 {
@@ -84,11 +86,10 @@ fn digit_value(b: u8) -> u32
     b % 16 + 9 * (b / 64)
 }
 
-// [0-9]+ or [0-9a-fA-F]+ of [66], or none, in one pass: the zeros that lead, the digits up to where the value stops, and the rest of them,
-// which count and no more. (Put into the loop of each check, as all that reads a reference is: as calls, with their answers handed up through
-// memory, these took a third of the instructions of a text of references.)
+// [0-9]+ or [0-9a-fA-F]+ of [66], or none: the zeros that lead, the digits up to where the value stops, and the rest of them, which count and no
+// more. (Put into the loop of each check, with all that reads a reference: docs/DECISIONS.md.)
 #[inline(always)]
-#[tactic(auto, using(crate::proofs::Counting::digit_runs))]
+#[tactic(auto, using(crate::proofs::DigitRuns::digit_runs))]
 pub fn read_digits<B: Base>(s: &[u8], at: usize, base: &B) -> Digits
     ensures { Counted B.BASE (B.class base.now) (drop at s.now) result.count result.value }
 {

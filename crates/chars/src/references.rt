@@ -11,8 +11,8 @@ use crate::rules::{Rule, walk};
 use error::{Answer, Refusal};
 use search::at_keyword;
 
-// What follows "&#" or "&#x": a digit or more, then ';', and the value is that of a Char. It ends where a reference ends; what is wrong
-// with it is told without a place, which is not this one but where the reference begins.
+// What follows "&#" or "&#x": a digit or more, then ';', and the value is that of a Char. A refusal comes without a place: that is where the
+// reference begins, not `at`.
 #[inline(always)]
 #[tactic(auto, using(crate::proofs::CharRefs::char_refs))]
 fn check_digits<B: Base>(s: &[u8], at: usize, base: &B) -> Result<usize, Refusal>

@@ -32,8 +32,7 @@ fn is_enc_char(b: u8) -> bool
     is_latin_letter(b) || is_digit(b) || matches!(b, b'.' | b'_' | b'-')
 }
 
-// Whether the run of digits goes to the end. No early exit, so that it becomes vector code: of a loop that looks for the end of a run byte by
-// byte the time depends on where it happens to lie (docs/DECISIONS.md).
+// Whether v is digits alone. No early exit, so that it becomes vector code (docs/DECISIONS.md says why).
 #[tactic(auto, using(crate::proofs::Valuing::all_of_them))]
 fn all_digits(v: &[u8]) -> bool
     ensures { result ≡ all_of digit v.now }

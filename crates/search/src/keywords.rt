@@ -4,7 +4,7 @@ ghost use Rattle.spec.specs.Reading.Readers.{starts};
 
 // Whether the bytes of kw stand at `at`; past the end only the empty word stands. Byte by byte, since most words differ in the first: by
 // `starts_with` a constant word takes twice the instructions, and by `zip` 37 percent more. One test of the length for them all: with one for
-// each byte, text of references takes a quarter more time.
+// each byte a text of references took a quarter more time.
 #[tactic(auto, using(crate::proofs::Words::matching))]
 pub fn at_keyword(s: &[u8], at: usize, kw: &[u8]) -> bool
     ensures { result ≡ starts kw.now (drop at s.now) }

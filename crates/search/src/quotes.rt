@@ -27,7 +27,7 @@ impl Marks {
     fn first(self, s: &[u8], at: usize) -> usize
         ensures { result ≡ at + away (stop self.sign self.other) (drop at s.now) }
     {
-        past_run(s, past_blocks(s, at, &self), &Unmarked(self))
+        past_run(s, past_blocks(s, at, &self), &NoMark(self))
     }
 }
 
@@ -46,9 +46,9 @@ impl Blocks for Marks {
 
 // What is no mark.
 #[derive(Clone, Copy)]
-struct Unmarked(Marks);
+struct NoMark(Marks);
 
-impl Class for Unmarked {
+impl Class for NoMark {
     ghost class = { λ u b. not (stop u.0.sign u.0.other b) };
 
     fn has(&self, b: u8) -> bool {

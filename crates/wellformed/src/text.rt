@@ -8,7 +8,7 @@ use chars::{Rule, check_char_ref_at, check_suspect_byte};
 use error::{Answer, Refusal};
 use search::at_keyword;
 
-// Legal characters and references, and the word is refused where it begins. (Put into the loop, as all that reads a reference is.)
+// Legal characters and references, and the word is refused where it begins. (Put into the loop, with all that reads a reference: docs/DECISIONS.md.)
 #[inline(always)]
 #[tactic(auto, using(chars::proofs::CharRefs::char_refs))]
 fn step_without(word: &[u8], refusal: Refusal, s: &[u8], at: usize) -> Answer

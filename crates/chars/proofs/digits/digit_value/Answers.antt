@@ -1,5 +1,5 @@
 -- What is left to show of `digit_value`. Assumes nothing.
-use Rattle.chars.proofs.Counting.{by_bits}
+use Rattle.chars.proofs.DigitRuns.{by_bits}
 use Rattle.chars.proofs.digits.digit_value.Goals as goal
 
 pub returns : goal.returns

@@ -1,5 +1,5 @@
 -- What is left to show of `read_digits`: a base's law is not searched. Assumes nothing.
-use Rattle.chars.proofs.Counting.{digit_runs}
+use Rattle.chars.proofs.DigitRuns.{digit_runs}
 use Rattle.chars.proofs.digits.read_digits.Goals as goal
 
 pub loop-i-init : goal.loop-i-init

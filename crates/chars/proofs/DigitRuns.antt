@@ -1,4 +1,4 @@
--- A run of digits, one by one, with a value that stops: the laws hold in any base. Assumes nothing.
+-- A run of digits, one by one, with a value that stops: the laws hold in any base that IsBase allows. Assumes nothing.
 use mathlib.Core.Path.{◌≡◌, refl, sym, ap, ◌∙◌}
 use mathlib.Core.Logic.{◌⊎◌, inl, inr}
 use mathlib.Core.Bool.{Bool, true, false}
@@ -50,7 +50,7 @@ pub record DigitsLeft (base : ℕ) (d : ℕ → Bool) (s : List ℕ) (at i v : �
   pub value_is : stopped_on past_points base v (digits d (drop i s)) ≡ stopped_on past_points base 0 (digits d (drop at s))
   pub goes_on : v < past_points
 
--- zeros change neither
+-- zeros that lead change neither where the digits end nor their value
 abbrev zero : ℕ → Bool
 zero b = eqb b 0x30
 
