@@ -19,6 +19,7 @@ use Rattle.spec.specs.Reading.Wellformed.{stopped_on, past_points}
 use Rattle.spec.proofs.Base.Tests.{decide, leb_true, eqb-true, within_lo, within_hi}
 use Rattle.spec.proofs.Base.Places.{drop_at, drop_end, run_within}
 use Rattle.spec.proofs.Wellformed.Digits.{stopped_run, stopped_stays}
+use Rattle.search.specs.FirstPlace.{only}
 use Rattle.search.proofs.Runs.{run_end, run_stop, run_go}
 use Rattle.chars.specs.Digits.{Counted, IsBase}
 
@@ -51,9 +52,6 @@ pub record DigitsLeft (base : ℕ) (d : ℕ → Bool) (s : List ℕ) (at i v : �
   pub goes_on : v < past_points
 
 -- zeros that lead change neither where the digits end nor their value
-abbrev zero : ℕ → Bool
-zero b = eqb b 0x30
-
 module _ (base : ℕ) (d : ℕ → Bool) (k : IsBase base d) where
   of_zero : (b : ℕ) → eqb b 0x30 ≡ true → d b ≡ true
   of_zero b e = ap d (eqb-true b 0x30 e) ∙ k.zero
@@ -62,29 +60,29 @@ module _ (base : ℕ) (d : ℕ → Bool) (k : IsBase base d) where
   unfolding digit_value
   zero_value b e = let f : b ≡ 0x30 = eqb-true b 0x30 e in rw f (omega arith)
 
-  zeros_run : (w : List ℕ) → run zero w + run d (drop (run zero w) w) ≡ run d w
+  zeros_run : (w : List ℕ) → run (only 0x30) w + run d (drop (run (only 0x30) w) w) ≡ run d w
   unfolding run
   zeros_run [] = refl
   zeros_run (b ∷ w) = go (eqb b 0x30) refl (zeros_run w)
     where
-      go : (t : Bool) → eqb b 0x30 ≡ t → run zero w + run d (drop (run zero w) w) ≡ run d w → pick t (suc (run zero w)) 0 + run d (drop (pick t (suc (run zero w)) 0) (b ∷ w)) ≡ pick (d b) (suc (run d w)) 0
+      go : (t : Bool) → eqb b 0x30 ≡ t → run (only 0x30) w + run d (drop (run (only 0x30) w) w) ≡ run d w → pick t (suc (run (only 0x30) w)) 0 + run d (drop (pick t (suc (run (only 0x30) w)) 0) (b ∷ w)) ≡ pick (d b) (suc (run d w)) 0
       go true e ih = rw (of_zero b e) (omega (arith, ih))
       go false e ih = omega arith
 
-  zeros_value : (w : List ℕ) → stopped_on past_points base 0 (digits d (drop (run zero w) w)) ≡ stopped_on past_points base 0 (digits d w)
+  zeros_value : (w : List ℕ) → stopped_on past_points base 0 (digits d (drop (run (only 0x30) w) w)) ≡ stopped_on past_points base 0 (digits d w)
   unfolding run stopped_on
   zeros_value [] = refl
   zeros_value (b ∷ w) = go (eqb b 0x30) refl (zeros_value w)
     where
-      go : (t : Bool) → eqb b 0x30 ≡ t → stopped_on past_points base 0 (digits d (drop (run zero w) w)) ≡ stopped_on past_points base 0 (digits d w)
-          → stopped_on past_points base 0 (digits d (drop (pick t (suc (run zero w)) 0) (b ∷ w))) ≡ stopped_on past_points base 0 (take (pick (d b) (suc (run d w)) 0) (b ∷ w))
+      go : (t : Bool) → eqb b 0x30 ≡ t → stopped_on past_points base 0 (digits d (drop (run (only 0x30) w) w)) ≡ stopped_on past_points base 0 (digits d w)
+          → stopped_on past_points base 0 (digits d (drop (pick t (suc (run (only 0x30) w)) 0) (b ∷ w))) ≡ stopped_on past_points base 0 (take (pick (d b) (suc (run d w)) 0) (b ∷ w))
       go true e ih = rw (of_zero b e) (ih ∙ sym (ap (λ (u : ℕ). stopped_on past_points base u (digits d w)) (zero_value b e)))
       go false e ih = refl
 
-  pub zeros_first : (s : List ℕ) (at i : ℕ) → i ≡ at + run zero (drop at s) → DigitsLeft base d s at i 0
+  pub zeros_first : (s : List ℕ) (at i : ℕ) → i ≡ at + run (only 0x30) (drop at s) → DigitsLeft base d s at i 0
   zeros_first s at i e =
-      let a : i + run d (drop (run zero (drop at s)) (drop at s)) ≡ at + run d (drop at s) = omega (arith, e, zeros_run (drop at s)) in
-      let b : drop i s ≡ drop (run zero (drop at s)) (drop at s) = (rw (e, drop-drop)) in
+      let a : i + run d (drop (run (only 0x30) (drop at s)) (drop at s)) ≡ at + run d (drop at s) = omega (arith, e, zeros_run (drop at s)) in
+      let b : drop i s ≡ drop (run (only 0x30) (drop at s)) (drop at s) = (rw (e, drop-drop)) in
       record {
         ends = ap (λ (w : List ℕ). i + run d w) b ∙ a;
         value_is = ap (λ (w : List ℕ). stopped_on past_points base 0 (digits d w)) b ∙ zeros_value (drop at s);
@@ -105,7 +103,7 @@ module _ (base : ℕ) (d : ℕ → Bool) (k : IsBase base d) where
         }
 
     module _ (h : i < length s) (t : Bool) (f : t ≡ d (get_or s i 0)) where
-      pub counted_stop : t ≡ false → (r : ℕ) → r ≡ at + run zero (drop at s) → r ≤ i → Counted base d (drop at s) (i - at) v
+      pub counted_stop : t ≡ false → (r : ℕ) → r ≡ at + run (only 0x30) (drop at s) → r ≤ i → Counted base d (drop at s) (i - at) v
       unfolding run stopped_on
       counted_stop n r a g =
           record {
@@ -142,7 +140,7 @@ module _ (base : ℕ) (d : ℕ → Bool) (k : IsBase base d) where
               record { ends = run_go d s at i inv.ends h (sym f ∙ y); value_is = (rw z at more); goes_on = l }
 
           -- the value stops here
-          pub counted_past : past_points ≤ v * b + c → (r m : ℕ) → r ≡ at + run zero (drop at s) → r ≤ i → m ≡ i + 1 + run d (drop (i + 1) s) → Counted base d (drop at s) (m - at) past_points
+          pub counted_past : past_points ≤ v * b + c → (r m : ℕ) → r ≡ at + run (only 0x30) (drop at s) → r ≤ i → m ≡ i + 1 + run d (drop (i + 1) s) → Counted base d (drop at s) (m - at) past_points
           counted_past l r m a g n =
               let z : min (v * b + c) past_points ≡ past_points = omega arith in
               record {

@@ -1,5 +1,5 @@
--- The digits of a character reference, as one pass over them gives them: how many there are, and their value as far as it matters. The proofs
--- call no tactic. Assumes nothing.
+-- The digits of a character reference [66], as one pass over them gives them (request 2): how many there are, and their value as far as it
+-- matters. The proofs call no tactic. Assumes nothing.
 use Rattle.std.specs.Prelude.{◌≡◌, Bool, true, ◌||◌, List, ℕ, leb, min, take, refl}
 use Rattle.std.proofs.Common.{ap}
 use Rattle.spec.specs.Basics.{within}

@@ -1,6 +1,7 @@
 // Runs of digits, as character references have them (production 66).
-ghost use Rattle.std.specs.Prelude.{◌≡◌, ℕ, true, eqb, drop};
+ghost use Rattle.std.specs.Prelude.{◌≡◌, ℕ, true, drop};
 ghost use Rattle.spec.specs.Grammar.References.{digit, hex_digit, digit_value};
+ghost use Rattle.search.specs.FirstPlace.{only};
 ghost use Rattle.chars.specs.Digits.{Counted, IsBase, decimal_is, hex_is};
 
 use search::{Class, past_run};
@@ -69,7 +70,7 @@ impl Base for Hex {
 struct Zero;
 
 impl Class for Zero {
-    ghost class = { λ _ b. eqb b 0x30 };
+    ghost class = { λ _. only 0x30 };
 
     fn has(&self, b: u8) -> bool {
         b == b'0'

@@ -7,7 +7,7 @@ use Rattle.search.proofs.spans.past_run.Goals as goal
 
 pub returns-then-not-has : goal.returns-then-not-has
 returns-then-not-has g c =
-    run_stop (g.C.Class.class c.args.of.now) c.args.s.now c.args.at c.loop-i.i c.loop-i.invariant c.loop-i-test.true (sym c.has.ensures ∙ (search rules))
+    omega (arith, run_stop (g.C.Class.class c.args.of.now) c.args.s.now c.args.at c.loop-i.i c.loop-i.invariant c.loop-i-test.true (sym c.has.ensures ∙ (search rules)))
 
 pub loop-i-preserved : goal.loop-i-preserved
 loop-i-preserved g c =
