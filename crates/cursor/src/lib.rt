@@ -13,7 +13,7 @@ mod words;
 
 pub use bars::past_bars;
 pub use literals::{
-    AttText, EntityText, parse_checked, parse_external_id, parse_id, parse_quoted,
+    AttText, EntityText, PubidText, parse_checked, parse_external_id, parse_id, parse_quoted,
     parse_spaced_literal,
 };
 pub use reads::Reads;

@@ -62,7 +62,7 @@ fn check_pubid(t: &[u8], at: usize) -> Answer
 }
 
 // The text of [12] PubidLiteral.
-struct PubidText;
+pub struct PubidText;
 
 impl Reads for PubidText {
     ghost reader = { λ _. check_pubid };

@@ -5,3 +5,4 @@ mod calls;
 mod text;
 
 pub use calls::{check_attr_value, check_attr_value_at, check_text, check_text_at};
+pub use text::{AttrValue, Text};
