@@ -5,26 +5,61 @@
 
 mod calls;
 mod gates;
+mod line;
 mod reply;
 mod tally;
 mod text;
-mod vector;
 
+use line::Line;
+use std::alloc::AllocError;
 use std::io;
 use std::io::{BufRead, BufReader, ErrorKind};
 use tally::Tally;
 
-fn main(rt: HostRuntime) -> io::Result<()> {
-    let alloc = rt.alloc();
-    let input = BufReader::new(alloc, rt.stdin())?;
-    let mut tally = Tally::new();
-    for line in input.split(alloc, b'\n') {
-        match line {
-            Ok(line) => tally.add(&rt, &line)?,
-            Err(error) if error.kind() == ErrorKind::OutOfMemory => return Err(error),
-            // Nothing comes where a read fails, as at the end of the input.
-            Err(_) => break,
+// So much of the input is read at a time.
+const PART: usize = 65_536;
+
+// Goes on through a part of the input: a newline ends a line, and what stands behind the last one is
+// the beginning of another.
+fn follow(
+    rt: &HostRuntime,
+    part: &[u8],
+    line: &mut Line,
+    tally: &mut Tally,
+) -> Result<(), AllocError> {
+    for (newlines, piece) in part.split(|byte| *byte == b'\n').enumerate() {
+        if newlines > 0 {
+            tally.add(rt, line)?;
+            line.clear();
         }
+        line.push(piece)?;
     }
-    println!(rt; "{tally}")
+    Ok(())
+}
+
+// A line is taken as it comes and never held whole, so that no length of it takes more memory; and a
+// read that fails, or gives nothing, ends the input behind what came before it.
+fn main(rt: HostRuntime) -> io::Result<()> {
+    let mut input = BufReader::with_capacity(rt.alloc(), PART, rt.stdin())?;
+    let mut line = Line::new(rt.alloc())?;
+    let mut tally = Tally::new();
+    for _ in 0..u64::MAX {
+        let count = match input.fill_buf() {
+            Ok(part) => {
+                follow(&rt, part, &mut line, &mut tally)?;
+                part.len()
+            }
+            Err(error) if error.kind() == ErrorKind::Interrupted => continue,
+            Err(_) => 0,
+        };
+        if count == 0 {
+            break;
+        }
+        input.consume(count);
+    }
+    // The last line may lack its newline; where it has one, an empty line is left, which does not
+    // count.
+    tally.add(&rt, &mut line)?;
+    tally.tell(&rt);
+    Ok(())
 }

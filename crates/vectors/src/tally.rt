@@ -1,12 +1,15 @@
 // Comparing and counting.
 use crate::gates;
-use crate::vector::{Fault, Vector};
+use crate::line::{Kind, Line};
 use gate::Gate;
+use std::alloc::AllocError;
+use std::fmt::InlineText;
 use std::io::Write;
 use std::{fmt, io};
 
-// So many bytes of a wanted answer are written: more than any answer has.
-const SHOWN: usize = 64;
+// More bytes than any answer has: the longest is that of a document, with eight numbers of up to
+// twenty digits.
+const LONGEST: usize = 192;
 
 // How many lines there were, how many of them were vectors, and of these how many differ and how many
 // have a call that is not known; and the gate's record, which goes from line to line.
@@ -30,44 +33,50 @@ impl Tally {
         }
     }
 
-    // Counts one more line, and says where it is malformed or its call answers otherwise.
-    pub fn add(&mut self, rt: &(impl Print + AllocGlobal), line: &[u8]) -> io::Result<()> {
+    // Counts one more line, which has ended, and says where it is malformed or its call answers
+    // otherwise. Where that cannot be written there is nobody to tell, and the rest counts all the same.
+    pub fn add(&mut self, rt: &impl Print, line: &mut Line) -> Result<(), AllocError> {
         self.lines = self.lines.wrapping_add(1);
-        match Vector::read(rt.alloc(), line) {
-            Ok(None) => Ok(()),
-            Ok(Some(vector)) => self.compare(rt, &vector),
-            Err(Fault::OutOfMemory(e)) => Err(e.into()),
-            Err(Fault::Malformed) => {
+        match line.end()? {
+            Kind::Nothing => {}
+            Kind::Malformed => {
                 self.vectors = self.vectors.wrapping_add(1);
                 self.differ = self.differ.wrapping_add(1);
-                println!(rt; "line {}: malformed", self.lines)
+                let _ = println!(rt; "line {}: malformed", self.lines);
             }
+            Kind::Vector => self.compare(rt, line),
         }
+        Ok(())
     }
 
-    fn compare(&mut self, rt: &(impl Print + AllocGlobal), vector: &Vector) -> io::Result<()> {
+    fn compare(&mut self, rt: &impl Print, line: &Line) {
         self.vectors = self.vectors.wrapping_add(1);
-        let Vector { call, answer, text } = vector;
-        let Some(got) = gates::ask(&mut self.gate, call, answer, text) else {
+        let Some(got) = gates::ask(&mut self.gate, &line.call, &line.answer, &line.text.bytes)
+        else {
             self.unknown = self.unknown.wrapping_add(1);
-            return Ok(());
+            return;
         };
-        let got = format!(in rt.alloc(); "{got}")?;
-        if got.as_bytes() == *answer {
-            return Ok(());
+        let got = InlineText::<LONGEST>::of(got);
+        let got = got.as_str();
+        if got.as_bytes() != line.answer.as_slice() {
+            self.differ = self.differ.wrapping_add(1);
+            let _ = self.report(rt, line, got);
         }
-        self.differ = self.differ.wrapping_add(1);
-        self.report(rt, vector, got.as_str())
     }
 
     // The columns may hold any bytes, so they are written as they are.
-    fn report(&self, rt: &impl Print, vector: &Vector, got: &str) -> io::Result<()> {
+    fn report(&self, rt: &impl Print, line: &Line, got: &str) -> io::Result<()> {
         let mut out = io::writer(rt);
         write!(out, "line {}: ", self.lines)?;
-        out.write_all(vector.call)?;
+        out.write_all(&line.call)?;
         out.write_all(b" wanted ")?;
-        out.write_all(vector.answer.get(..SHOWN).unwrap_or(vector.answer))?;
+        out.write_all(&line.answer)?;
         writeln!(out, " got {got}")
+    }
+
+    // Says how many there were, after the last line.
+    pub fn tell(&self, rt: &impl Print) {
+        let _ = println!(rt; "{self}");
     }
 }
 
