@@ -21,7 +21,8 @@ impl<'a> Checker<'a> {
         Ok(Checker {
             rt,
             manner,
-            held: Vec::with_capacity(rt.alloc(), HELD + 1)?,
+            // A byte more than is read of any file: a buffer that is full is made larger before the end is seen.
+            held: Vec::with_capacity(rt.alloc(), HELD + 2)?,
             output: Output::new(rt)?,
         })
     }

@@ -6,12 +6,17 @@ use std::{env, fs, io};
 
 const FOLDER: &str = "MOXKELDI_LINKS";
 
+// No path is longer.
+const LONGEST: usize = 4096;
+
 // Opens the file that argument `number` names.
 pub fn open(rt: &HostRuntime, number: usize) -> io::Result<File> {
     match env::var(rt, FOLDER) {
-        Ok(folder) => fs::open(rt, format!(in rt.alloc(); "{folder}/{number}")?.as_str()),
+        Ok(folder) if folder.len() <= LONGEST => {
+            fs::open(rt, format!(in rt.alloc(); "{folder}/{number}")?.as_str())
+        }
         Err(VarError::OutOfMemory) => Err(io::Error::from(io::ErrorKind::OutOfMemory)),
-        Err(VarError::NotPresent | VarError::NotUnicode) => Err(io::Error::new(
+        Ok(_) | Err(VarError::NotPresent | VarError::NotUnicode) => Err(io::Error::new(
             io::ErrorKind::InvalidInput,
             "its name is not UTF-8, and the script moxkeldi has made no link to it",
         )),
