@@ -10,7 +10,7 @@ use borrow.Author.Tests.{eqb-true, eqb-false}
 use lib.Dec.{eqb}
 use lib.ListN.{length, get_or, take, drop}
 use lib.Pointwise.{pointwise}
-use Rattle.std.specs.List.{list_all}
+use Rattle.std.specs.List.{fold, list_all}
 use Rattle.spec.specs.Basics.{pick}
 use Rattle.spec.specs.Grammar.Languages.{ascii}
 use Rattle.spec.specs.Grammar.References.{digit}
@@ -30,6 +30,14 @@ all_is p (b ∷ w) = go (p b) (all_is p w)
     go : (t : Bool) → list_all p w ≡ eqb (run p w) (length w) → (t && list_all p w) ≡ eqb (pick t (suc (run p w)) 0) (suc (length w))
     go true e = e ∙ (rw compare.suc-suc)
     go false e = sym (eqb_no 0 (suc (length w)) (λ (z : 0 ≡ suc (length w)). omega arith))
+
+-- and what a fold says that tests each byte
+abbrev pub all_so_far : (ℕ → Bool) → Bool → ℕ → Bool
+all_so_far p a b = a && p b
+
+pub fold_is : (p : ℕ → Bool) (w : List ℕ) (a : Bool) → fold (all_so_far p) a w ≡ (a && list_all p w)
+fold_is p [] a = sym (and-true a)
+fold_is p (b ∷ w) a = fold_is p w (a && p b) ∙ and_assoc a (p b) (list_all p w)
 
 -- a pass over it: a whether all before i are of the class
 module _ (p : ℕ → Bool) (v : List ℕ) (i : ℕ) (a : Bool) (inv : (a && list_all p (drop i v)) ≡ list_all p v) where
