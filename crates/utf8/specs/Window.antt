@@ -1,5 +1,5 @@
 -- UTF-8 by windows of four bytes: a test that a text passes only if it is UTF-8. Assumes nothing.
-use Rattle.std.specs.Prelude.{Bool, not, ◌||◌, ◌&&◌, List, [], ◌∷◌, ℕ, eqb, leb, ltb}
+use Rattle.std.specs.Prelude.{◌≡◌, Bool, false, not, ◌||◌, ◌&&◌, List, [], ◌∷◌, ℕ, ◌+◌, ◌<◌, eqb, leb, ltb, length, get_or}
 use Rattle.std.specs.Bool.{beq}
 use Rattle.spec.specs.Reading.Utf8.{tail}
 
@@ -24,3 +24,16 @@ off x y z b =
 unfoldable pub fine : ℕ → ℕ → ℕ → List ℕ → Bool
 fine x y z [] = not (due x y z)
 fine x y z (b ∷ w) = not (off x y z b) && fine y z b w
+
+-- the byte after the three from i on is out of place
+unfoldable pub off_after : List ℕ → ℕ → Bool
+off_after s i = off (get_or s i 0) (get_or s (i + 1) 0) (get_or s (i + 2) 0) (get_or s (i + 3) 0)
+
+-- after the first three no byte is out of place
+pub record InPlace (s : List ℕ) : Type 0 where
+  pub each : (i : ℕ) → i + 3 < length s → off_after s i ≡ false
+
+-- t is the text after three bytes 0, and before others, so far as 22 bytes go
+pub record Padded (s t : List ℕ) : Type 0 where
+  pub long : length t ≡ 22
+  pub each : (i : ℕ) → i < 22 → get_or t i 0 ≡ get_or (0 ∷ 0 ∷ 0 ∷ s) i 0

@@ -3,22 +3,29 @@
 
 mod blocks;
 
-ghost use Rattle.std.specs.Prelude.{◌≡◌, true, false, ◌||◌, ◌+◌, ◌*◌, ◌%◌, drop, get_or};
+ghost use Rattle.std.specs.Prelude.{◌≡◌, ◌<◌, ◌≤◌, true, false, ◌||◌, ◌+◌, ◌*◌, ◌%◌, length, drop, get_or};
 ghost use Rattle.spec.specs.Reading.Utf8.{tail, two, three, four, decode4, decode1};
 ghost use Rattle.spec.specs.Reading.Readers.{stop_of};
 ghost use Rattle.spec.specs.Reading.Source.{utf8};
 ghost use Rattle.utf8.specs.Seen.{seen, accepts};
-ghost use Rattle.utf8.specs.Window.{due, off};
+ghost use Rattle.utf8.specs.Window.{due, off, InPlace, Padded};
 
 use blocks::{cut, skip_blocks};
 
-// So much is looked at in windows at a time where an accent stands alone. The windows begin with the fourth byte, the last one stands in no
-// vector, and a cut takes up to three bytes off, so both sizes are seven bytes more than whole vectors.
-const FEW: usize = 71;
-// And so much where more of them stand.
+// So much is looked at in windows at a time where an accent stands alone: four blocks, or what a cut leaves of them.
+const FEW: usize = 67;
+// And so much where more of them stand: seven bytes more than whole turns of one loop over all its windows, since these begin with the
+// fourth byte, the last one stands in no vector, and a cut takes up to three bytes off.
 const MANY: usize = 4103;
-// A text as short as this is decoded as soon as the windows are set up, as most names are.
-const SHORT: usize = 48;
+// From here on that loop is taken, of 32 windows a turn. By blocks such a part takes a tenth longer; by the loop a part of another length
+// has up to 32 windows left over, one at a time, by which a text of 34 bytes takes five times as long.
+const LONG: usize = 4100;
+// A block has so many windows, which fill a vector. By 32 or 64 windows a turn long parts gain little, and by 64 short ones lose.
+const STEP: usize = 16;
+// And so many bytes.
+const BLOCK: usize = 19;
+// A text as short as this is decoded as soon as a block is set up.
+const SHORT: usize = 5;
 // After so much ASCII in a row an accent stands alone.
 const CALM: usize = 128;
 
@@ -169,7 +176,7 @@ fn decoded(s: &[u8]) -> bool
     text_end(s) == s.len()
 }
 
-// Whether a byte is 0x80 or more. No early exit, so that the compiler takes many bytes at once; so in `unfit`. By `any` it takes 17 times
+// Whether a byte is 0x80 or more. No early exit, so that the compiler takes many bytes at once; so in `wrong_windows`. By `any` it takes 17 times
 // the instructions.
 #[tactic(auto, using(crate::proofs::Windows::high_valid))]
 fn high(s: &[u8]) -> bool
@@ -209,28 +216,91 @@ fn wrong_front(a: u8, b: u8, c: u8) -> bool
     wrong(0, 0, 0, a) | wrong(0, 0, a, b) | wrong(0, a, b, c)
 }
 
-// Whether a byte is out of place, or one is due at the end. Fewer than three bytes are not looked at, and count as unfit.
-fn unfit(s: &[u8]) -> bool
-    ensures { result ≡ false → true ≡ accepts (utf8 s.now) }
+// Whether a byte is out of place after the three before it.
+fn wrong_windows(s: &[u8]) -> bool
+    ensures { result ≡ false → InPlace s.now }
 {
-    let ([a, b, c, ..], [.., x, y, z]) = (s, s) else {
-        return true;
-    };
-    let mut bad = wrong_front(*a, *b, *c) | is_due(*x, *y, *z);
+    let mut bad = false;
     for [x, y, z, b] in s.array_windows::<4>() {
         bad |= wrong(*x, *y, *z, *b);
     }
     bad
 }
 
-// Whether a part is UTF-8: two quick tests that say yes, and the slow one where they do not.
+// The same of a text of a block or more, a block at a time. The last block is the text's end, and may look at windows of the one before.
+fn wrong_blocks(s: &[u8]) -> bool
+    requires { 19 ≤ length s.now }
+    ensures { result ≡ false → InPlace s.now }
+{
+    if LONG <= s.len() {
+        return wrong_windows(s);
+    }
+    let mut bad = wrong_windows(&s[s.len() - BLOCK..]);
+    let mut rest = s;
+    while BLOCK < rest.len() {
+        bad |= wrong_windows(&rest[..BLOCK]);
+        rest = &rest[STEP..];
+    }
+    bad
+}
+
+// A text too short for a block, after three bytes 0 and before others. Byte by byte, as in `copy_from_slice` the compiler calls C's memcpy,
+// which the archive for C does without.
+fn padded(s: &[u8]) -> [u8; 22]
+    ensures { Padded s.now result }
+{
+    let mut t = [0; 22];
+    for i in 0..19 {
+        t[i + 3] = byte_at(s, i);
+    }
+    t
+}
+
+// Whether a byte of a text too short for a block is out of place, or one is due at its end: there a byte 0 is. By windows one at a time
+// 15 bytes take twice as long. `padded` stands in both branches, as the compiler copies 16 bytes at once where it knows of so many.
+fn unfit_few(s: &[u8]) -> bool
+    requires { length s.now < 19 }
+    ensures { result ≡ false → true ≡ accepts (utf8 s.now) }
+{
+    if s.len() < STEP {
+        let t = padded(s);
+        return wrong_windows(&t[..BLOCK]);
+    }
+    let t = padded(s);
+    wrong_windows(&t[..BLOCK]) | wrong_windows(&t[3..])
+}
+
+// Whether a byte is out of place, or one is due at the end. Fewer bytes than a block are not looked at, and count as unfit.
+#[tactic(auto, using(crate::proofs::Windows::in_place_valid))]
+fn unfit(s: &[u8]) -> bool
+    ensures { result ≡ false → true ≡ accepts (utf8 s.now) }
+{
+    if s.len() < BLOCK {
+        return true;
+    }
+    let ([a, b, c, ..], [.., x, y, z]) = (s, s) else {
+        return true;
+    };
+    wrong_front(*a, *b, *c) | is_due(*x, *y, *z) | wrong_blocks(s)
+}
+
+// Whether a part is UTF-8: two quick tests that say yes, and the slow one where they do not. The test of a short text is called here and not
+// in `unfit`, which first saves registers that it does not need.
 fn is_valid_part(s: &[u8]) -> bool
     ensures { result ≡ accepts (utf8 s.now) }
 {
-    if high(s) && (s.len() < SHORT || unfit(s)) {
+    if !high(s) {
+        return true;
+    }
+    if s.len() < SHORT {
         return decoded(s);
     }
-    true
+    let is_unfit = if s.len() < BLOCK {
+        unfit_few(s)
+    } else {
+        unfit(s)
+    };
+    !is_unfit || decoded(s)
 }
 
 // Whether a text is UTF-8: blocks of ASCII are passed over, and what stands between them is looked at in windows, part by part. A part
