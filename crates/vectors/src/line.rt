@@ -3,9 +3,9 @@
 use crate::text::Text;
 use std::alloc::{AllocError, Global};
 
-// So much of a call's name and of an answer is held: more than any has, so that a cut one is no known
-// call, or differs from the answer.
-const WORD: usize = 64;
+// So much of a call's name and of an answer is held: more than any has (eight numbers of seven digits,
+// since no text here is longer), so that a cut one is no known call, or differs from the answer.
+pub const WORD: usize = 64;
 
 // Where in the line the next byte stands.
 #[derive(Clone, Copy)]
@@ -83,13 +83,13 @@ impl Line {
         Ok(())
     }
 
-    // What it is, now that it has ended: a vector has three columns.
-    pub fn end(&mut self) -> Result<Kind, AllocError> {
+    // What it is, once it has ended: a vector has three columns.
+    pub fn finish(&mut self) -> Result<Kind, AllocError> {
         match self.column {
             Column::Start | Column::Comment => Ok(Kind::Nothing),
             Column::Call | Column::Answer | Column::Broken => Ok(Kind::Malformed),
             Column::Text | Column::Return | Column::More => {
-                let is_text = self.text.end()?;
+                let is_text = self.text.finish()?;
                 Ok(if is_text {
                     Kind::Vector
                 } else {

@@ -38,7 +38,9 @@ fn follow(
 }
 
 // A line is taken as it comes and never held whole, so that no length of it takes more memory; and a
-// read that fails, or gives nothing, ends the input behind what came before it.
+// read that fails, or gives nothing, ends the input behind what came before it. (One that was only
+// interrupted is tried again. The turns are counted, since a proved loop has to end and nothing says
+// that the input does.)
 fn main(rt: HostRuntime) -> io::Result<()> {
     let mut input = BufReader::with_capacity(rt.alloc(), PART, rt.stdin())?;
     let mut line = Line::new(rt.alloc())?;

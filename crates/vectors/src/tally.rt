@@ -1,15 +1,11 @@
 // Comparing and counting.
 use crate::gates;
-use crate::line::{Kind, Line};
+use crate::line::{Kind, Line, WORD};
 use gate::Gate;
 use std::alloc::AllocError;
 use std::fmt::InlineText;
 use std::io::Write;
 use std::{fmt, io};
-
-// More bytes than any answer has: the longest is that of a document, with eight numbers of up to
-// twenty digits.
-const LONGEST: usize = 192;
 
 // How many lines there were, how many of them were vectors, and of these how many differ and how many
 // have a call that is not known; and the gate's record, which goes from line to line.
@@ -37,7 +33,7 @@ impl Tally {
     // otherwise. Where that cannot be written there is nobody to tell, and the rest counts all the same.
     pub fn add(&mut self, rt: &impl Print, line: &mut Line) -> Result<(), AllocError> {
         self.lines = self.lines.wrapping_add(1);
-        match line.end()? {
+        match line.finish()? {
             Kind::Nothing => {}
             Kind::Malformed => {
                 self.vectors = self.vectors.wrapping_add(1);
@@ -56,7 +52,7 @@ impl Tally {
             self.unknown = self.unknown.wrapping_add(1);
             return;
         };
-        let got = InlineText::<LONGEST>::of(got);
+        let got = InlineText::<WORD>::of(got);
         let got = got.as_str();
         if got.as_bytes() != line.answer.as_slice() {
             self.differ = self.differ.wrapping_add(1);

@@ -70,8 +70,9 @@ impl Text {
         Ok(())
     }
 
-    // Whether the column may end here: it may not break off within a pair or before a number.
-    pub fn end(&mut self) -> Result<bool, AllocError> {
+    // Whether the column may end here, once a line: it may not break off within a pair or before a
+    // number. What is left to repeat is repeated.
+    pub fn finish(&mut self) -> Result<bool, AllocError> {
         match self.place {
             Place::Pair => Ok(true),
             Place::Count(times) => {
