@@ -7,6 +7,9 @@ use std::{fmt, fs, io, str};
 // So many bytes of a file are held: room for a DOCTYPE that is too long, and for much in front of it.
 pub const HELD: usize = 2097152;
 
+// No path is longer.
+pub const LONGEST_PATH: usize = 4096;
+
 // The system's number for a name that is too long.
 const ENAMETOOLONG: i32 = 36;
 

@@ -1,5 +1,5 @@
 // The arguments. Options may stand before, between and after the files, and count for all of them.
-use crate::files::{INPUT, Source};
+use crate::files::{INPUT, LONGEST_PATH, Source};
 use crate::{usage, words};
 use classes::Names;
 use std::alloc::AllocError;
@@ -71,9 +71,9 @@ impl Options {
             unknown: None,
             ended: false,
         };
-        // No path is longer. (`args` of the library, which would make the room itself, fails whole where an argument is not UTF-8, and a
+        // (`args` of the library, which would make the room itself, fails whole where an argument is not UTF-8, and a
         // file's name may be of any bytes.)
-        let mut buffer = [0u8; 4096];
+        let mut buffer = [0u8; LONGEST_PATH];
         for number in 1..usize::MAX {
             match rt.arg(number, &mut buffer) {
                 Ok(n) => options.take(rt, number, &buffer[..n])?,
